@@ -1,0 +1,10 @@
+pub mod Logic
+pub mod Order
+pub mod Runs
+pub mod Steps
+pub mod Begun
+pub mod Readings
+pub mod Writings
+pub mod Streams
+pub mod Lengths
+pub mod Clear

@@ -1,0 +1,64 @@
+// What reading, writing and the stream answer.
+use crate::value::Message;
+
+// Why a message, a value or a buffer was refused, by its number.
+pub struct Refusal {
+    pub number: u8,
+}
+
+impl Refusal {
+    // Longer than 1,232 bytes.
+    pub const TOO_LONG: u8 = 1;
+    // Fewer bytes than the fields need.
+    pub const TOO_SHORT: u8 = 2;
+    // A version other than 1 and 2.
+    pub const VERSION: u8 = 3;
+    // A reserved bit of the header is set.
+    pub const RESERVED: u8 = 4;
+    // A tunnelled message of version 1.
+    pub const OLD_TUNNEL: u8 = 5;
+    // An encrypt type other than 0 and 1.
+    pub const ENCRYPT: u8 = 6;
+    // A key type other than 1 and 2.
+    pub const KEY: u8 = 7;
+    // A source that is all zero or all ones.
+    pub const SOURCE: u8 = 8;
+    // A destination that is all zero.
+    pub const DESTINATION: u8 = 9;
+    // F is zero, or a reserved bit of the exchange header is set.
+    pub const EXCHANGE: u8 = 10;
+    // A or R in version 1.
+    pub const OLD_ASKS: u8 = 11;
+    // A tunnel version other than 1.
+    pub const TUNNEL: u8 = 12;
+    // A packet that is neither IPv4 nor IPv6.
+    pub const PACKET: u8 = 13;
+    // Writing: an absent field is not zero, or the check bytes are not as many as they must be.
+    pub const STRAY: u8 = 14;
+    // The output buffer is too small.
+    pub const NO_ROOM: u8 = 19;
+}
+
+// Of reading: the value, or the refusal.
+pub enum Reading {
+    Taken(Message),
+    Refused(Refusal),
+}
+
+// Of outer reading: where the protected part starts and how long it is, or the refusal.
+pub enum OuterReading {
+    Protected(usize, usize),
+    Refused(Refusal),
+}
+
+// Of writing and framing: how many bytes were written, or the refusal.
+pub enum Writing {
+    Written(usize),
+    Refused(Refusal),
+}
+
+// Of unframing: the length of the whole message at the front, or how many bytes are still wanted.
+pub enum Unframed {
+    Whole(usize),
+    Incomplete(usize),
+}

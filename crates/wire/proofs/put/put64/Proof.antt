@@ -1,0 +1,62 @@
+-- A slice that is too short stays as it was; else the stores are a run from its front. Assumes nothing.
+use native.Mathlib.Omega.{arith}
+use lib.ListN.{length-set}
+use Rattle.wire.specs.Bytes.{littleBytes}
+use Rattle.wire.proofs.Fronts.{put-short, sets-placed}
+use borrow.Author.Needs.{needs}
+use Rattle.wire.proofs.put.put64.Statement.{statement}
+use Rattle.wire.proofs.put.put64.Tie as tie
+
+returns : tie.Need-returns
+returns c = put-short (littleBytes 8 _) _ (c .if1 .taken)
+
+slice-write-out-2 : tie.Need-slice-write-out-2
+slice-write-out-2 c = simp length-set (omega arith)
+
+slice-write-out-3 : tie.Need-slice-write-out-3
+slice-write-out-3 c = simp length-set (omega arith)
+
+slice-write-out-4 : tie.Need-slice-write-out-4
+slice-write-out-4 c = simp length-set (omega arith)
+
+slice-write-out-5 : tie.Need-slice-write-out-5
+slice-write-out-5 c = simp length-set (omega arith)
+
+slice-write-out-6 : tie.Need-slice-write-out-6
+slice-write-out-6 c = simp length-set (omega arith)
+
+slice-write-out-7 : tie.Need-slice-write-out-7
+slice-write-out-7 c = simp length-set (omega arith)
+
+slice-write-out-8 : tie.Need-slice-write-out-8
+slice-write-out-8 c = simp length-set (omega arith)
+
+same-length : tie.Need-same-length
+same-length c = simp length-set
+
+returns-2 : tie.Need-returns-2
+returns-2 c = sets-placed (littleBytes 8 (c .before .args .x)) _ (c .if1 .left)
+
+pub put64-spec : {M : Type 1} → statement M
+put64-spec =
+    tie.close
+    (tie.spec
+    returns
+    (λ c. search needs)
+    (λ c. search needs)
+    (λ c. search needs)
+    slice-write-out-2
+    (λ c. search needs)
+    slice-write-out-3
+    (λ c. search needs)
+    slice-write-out-4
+    (λ c. search needs)
+    slice-write-out-5
+    (λ c. search needs)
+    slice-write-out-6
+    (λ c. search needs)
+    slice-write-out-7
+    (λ c. search needs)
+    slice-write-out-8
+    same-length
+    returns-2)

@@ -1,0 +1,66 @@
+// A number to the front of a slice; its other bytes stay as they were. Where the slice has fewer
+// bytes than the number, all of it stays as it was.
+ghost use mathlib.Core.Path.{_≡_};
+ghost use Rattle.wire.specs.Bytes.{littleBytes, bigBytes, placed};
+use crate::order::reversed;
+
+// One byte.
+pub fn put8(out: &mut [u8], x: u8)
+    ensures { λ _. ⌜ now (out .exit) ≡ placed (littleBytes 1 x) (now (out .entry)) ⌝ }
+{
+    if out.len() < 1 {
+        return;
+    }
+    out[0] = x;
+}
+
+// Two bytes, low byte first.
+pub fn put16(out: &mut [u8], x: u16)
+    ensures { λ _. ⌜ now (out .exit) ≡ placed (littleBytes 2 x) (now (out .entry)) ⌝ }
+{
+    if out.len() < 2 {
+        return;
+    }
+    out[0] = (x % 256) as u8;
+    out[1] = (x / 256 % 256) as u8;
+}
+
+// Four bytes, low byte first.
+pub fn put32(out: &mut [u8], x: u32)
+    ensures { λ _. ⌜ now (out .exit) ≡ placed (littleBytes 4 x) (now (out .entry)) ⌝ }
+{
+    if out.len() < 4 {
+        return;
+    }
+    out[0] = (x % 256) as u8;
+    out[1] = (x / 256 % 256) as u8;
+    out[2] = (x / 256 / 256 % 256) as u8;
+    out[3] = (x / 256 / 256 / 256 % 256) as u8;
+}
+
+// Eight bytes, low byte first.
+pub fn put64(out: &mut [u8], x: u64)
+    ensures { λ _. ⌜ now (out .exit) ≡ placed (littleBytes 8 x) (now (out .entry)) ⌝ }
+{
+    if out.len() < 8 {
+        return;
+    }
+    let x2 = x / 256 / 256;
+    let x4 = x2 / 256 / 256;
+    let x6 = x4 / 256 / 256;
+    out[0] = (x % 256) as u8;
+    out[1] = (x / 256 % 256) as u8;
+    out[2] = (x2 % 256) as u8;
+    out[3] = (x2 / 256 % 256) as u8;
+    out[4] = (x4 % 256) as u8;
+    out[5] = (x4 / 256 % 256) as u8;
+    out[6] = (x6 % 256) as u8;
+    out[7] = (x6 / 256 % 256) as u8;
+}
+
+// Eight bytes, high byte first.
+pub fn put_node(out: &mut [u8], x: u64)
+    ensures { λ _. ⌜ now (out .exit) ≡ placed (bigBytes 8 x) (now (out .entry)) ⌝ }
+{
+    put64(out, reversed(x));
+}
