@@ -1,4 +1,5 @@
 pub mod Fronts
 pub mod Digits
 pub mod Places
+pub mod Parts
 pub mod Laws
