@@ -1,10 +1,6 @@
-pub mod Logic
-pub mod Order
-pub mod Runs
-pub mod Steps
-pub mod Begun
-pub mod Readings
-pub mod Writings
-pub mod Streams
-pub mod Lengths
-pub mod Clear
+pub mod Taken
+pub mod HeaderBack
+pub mod HeaderForth
+pub mod ReadWrite
+pub mod Accepted
+pub mod WriteRead

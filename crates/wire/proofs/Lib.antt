@@ -1,5 +1,6 @@
 pub mod Fronts
 pub mod Digits
 pub mod Places
+pub mod Runs
 pub mod Parts
 pub mod Laws

@@ -1,10 +1,10 @@
 -- A number at a place of a longer slice: the part from the place on is passed to a get or lent to a put. Assumes nothing.
 use Prim.Native.Nat.{ℕ, _+_, _-_, _≤_}
-use mathlib.Core.Path.{_≡_, sym, ap, ap₂, _∙_}
+use mathlib.Core.Path.{_≡_, refl, sym, ap, ap₂, _∙_}
 use mathlib.Core.List.{List, _++_, append-assoc, append-nil}
 use native.Mathlib.Omega.{arith}
 use lib.ListN.{length, take, drop, length-drop}
-use lib.Seq.{sets, sets-eq, take-all, drop-length, length-take-le, drop-drop}
+use lib.Seq.{sets, sets-eq, take-all, take-length, drop-length, length-take-le, drop-drop}
 use Rattle.wire.specs.Bytes.{part, front, placed}
 use Rattle.wire.proofs.Fronts.{part-take, front-whole, placed-whole}
 
@@ -43,3 +43,16 @@ place-put old new last at w e h p =
     ap₂ (λ (a b : List ℕ). take at old ++ (a ++ b)) whole after
     ∙ sym (append-assoc (take at old) new (drop (at + length new) old))
     ∙ sym (sets-eq new old at (omega arith))
+
+-- what a copy leaves in the whole: all of a list at the place
+pub place-copy : (old from last : List ℕ) (at : ℕ) → at + length from ≤ length old
+    → last ≡ take (length from) from ++ drop (length from) (take (at + length from - at) (drop at old))
+    → take at old ++ (last ++ drop (at + length from - at) (drop at old)) ≡ sets old at from
+place-copy old from last at h e =
+    let l : length (take (length from) (drop at old)) ≡ length from = length-within old at (length from) h in
+    let w : at + length from - at ≡ length from = width at (length from) in
+    let k : length from ≤ length (take (at + length from - at) (drop at old)) = rw w (omega arith) in
+    place-put old from last at (length from) refl h
+    (e
+    ∙ ap (λ (x : List ℕ). x ++ drop (length from) (take (at + length from - at) (drop at old))) (take-length from)
+    ∙ sym (placed-whole from (take (at + length from - at) (drop at old)) k))

@@ -1,0 +1,36 @@
+-- The two parts of bytes that were taken. Assumes nothing.
+use Prim.Native.Nat.{_+_, _-_, _≤_}
+use mathlib.Core.Path.{_≡_, ap, _∙_}
+use mathlib.Core.Bool.{Bool}
+use mathlib.Core.List.{List}
+use Prim.Native.Nat.{ℕ}
+use native.Mathlib.Omega.{arith}
+use borrow.Author.Tests.{le-leb}
+use lib.ListN.{length, take, drop, length-drop}
+use lib.Seq.{length-take-le}
+use Rattle.message.specs.Layout.{headLength, checkLength}
+use Rattle.reader.specs.Reading.{readOf, partOf, payloadOf, checkOf}
+use Rattle.message.specs.declared.value.Message.{Message}
+use Rattle.message.specs.declared.answers.Reading.{Reading}
+use Rattle.message.specs.declared.answers.Reading.the-variants.{Taken}
+use Rattle.reader.proofs.Clear.{fits}
+
+module _ (bytes : List ℕ) (m : Message) (e : readOf bytes ≡ Taken m) where
+  pub payload-is : payloadOf bytes (readOf bytes) ≡ take (length bytes - checkLength m - headLength m) (drop (headLength m) bytes)
+  unfolding payloadOf
+  payload-is =
+      ap (λ (r : Reading). payloadOf bytes r) e
+      ∙ ap (λ (b : Bool). partOf b (take (length bytes - checkLength m - headLength m) (drop (headLength m) bytes))) (le-leb _ _ (fits bytes m e))
+
+  pub check-is : checkOf bytes (readOf bytes) ≡ drop (length bytes - checkLength m) bytes
+  unfolding checkOf
+  check-is =
+      ap (λ (r : Reading). checkOf bytes r) e
+      ∙ ap (λ (b : Bool). partOf b (drop (length bytes - checkLength m) bytes)) (le-leb _ _ (fits bytes m e))
+
+  pub payload-length : length (payloadOf bytes (readOf bytes)) ≡ length bytes - checkLength m - headLength m
+  payload-length =
+      ap length payload-is ∙ length-take-le _ _ (rw (length-drop (headLength m) bytes) (let h = fits bytes m e in omega arith))
+
+  pub check-length : length (checkOf bytes (readOf bytes)) ≡ checkLength m
+  check-length = ap length check-is ∙ length-drop (length bytes - checkLength m) bytes ∙ (let h = fits bytes m e in omega arith)

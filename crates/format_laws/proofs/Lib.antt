@@ -1,6 +1,0 @@
-pub mod Taken
-pub mod HeaderBack
-pub mod HeaderForth
-pub mod ReadWrite
-pub mod Accepted
-pub mod WriteRead

@@ -1,0 +1,5 @@
+pub mod Logic
+pub mod Order
+pub mod Lengths
+pub mod Numbered
+pub mod Low

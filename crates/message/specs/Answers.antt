@@ -1,0 +1,48 @@
+-- The answers: for each case its refusal number, 0 for none, and its values. Assumes nothing.
+use Prim.Native.Nat.{ℕ, zero, suc}
+use mathlib.Core.List.{List, _++_}
+use lib.ListN.{drop}
+use Rattle.message.specs.declared.value.Message.{Message}
+use Rattle.message.specs.declared.answers.Refusal.{Refusal}
+use Rattle.message.specs.declared.answers.Reading.{Reading}
+use Rattle.message.specs.declared.answers.Reading.the-variants as Reading
+use Rattle.message.specs.declared.answers.OuterReading.{OuterReading}
+use Rattle.message.specs.declared.answers.OuterReading.the-variants as OuterReading
+use Rattle.message.specs.declared.answers.Writing.{Writing}
+use Rattle.message.specs.declared.answers.Writing.the-variants as Writing
+
+abbrev pub refusal : ℕ → Refusal
+refusal n = record { number = n }
+
+-- reading: the value, or the refusal
+abbrev pub reading : ℕ → Message → Reading
+reading zero m = Reading.Taken m
+reading (suc n) m = Reading.Refused (refusal (suc n))
+
+-- outer reading: where the protected part starts and how long it is, or the refusal
+abbrev pub outerReading : ℕ → ℕ → ℕ → OuterReading
+outerReading zero start len = OuterReading.Protected start len
+outerReading (suc n) start len = OuterReading.Refused (refusal (suc n))
+
+-- writing and framing: the length, or the refusal
+abbrev pub writing : ℕ → ℕ → Writing
+writing zero len = Writing.Written len
+writing (suc n) len = Writing.Refused (refusal (suc n))
+
+-- the refusal number of an answer
+abbrev pub readingNumber : Reading → ℕ
+readingNumber (Reading.Taken m) = 0
+readingNumber (Reading.Refused r) = r .number
+
+abbrev pub outerNumber : OuterReading → ℕ
+outerNumber (OuterReading.Protected start len) = 0
+outerNumber (OuterReading.Refused r) = r .number
+
+abbrev pub writingNumber : Writing → ℕ
+writingNumber (Writing.Written len) = 0
+writingNumber (Writing.Refused r) = r .number
+
+-- the buffer after writing or framing: its first bytes replaced, as many as are written, or nothing changed
+abbrev pub bufferAfter : Writing → List ℕ → List ℕ → List ℕ
+bufferAfter (Writing.Written n) bytes old = bytes ++ drop n old
+bufferAfter (Writing.Refused r) bytes old = old

@@ -1,0 +1,2 @@
+-- What the contracts of `stream` cite.
+pub mod Stream

@@ -1,0 +1,6 @@
+// Writing a message: what it would answer, and the bytes of a value at the front of a buffer.
+mod stores;
+mod writing;
+
+pub use writing::would_write;
+pub use writing::write;
