@@ -1,0 +1,59 @@
+-- The rule of positions at a row: what opening a row and rolling it give. Assumes nothing.
+use Prim.Native.Nat.{ℕ, _+_, _%_, _^_}
+use mathlib.Core.Bool.{Bool, true, cond}
+use mathlib.Core.List.{List, [], _∷_}
+use lib.Dec.{eqb}
+use Rattle.window.specs.Rule.{accepts, step, greatest, marksNumber, marked}
+use Rattle.window.specs.declared.Row.{Row}
+use Rattle.window.specs.declared.Rolled.{Rolled}
+use Rattle.window.specs.declared.Verdict.the-variants.{New, Duplicate}
+
+-- the positions that a row stands for: none while it is not in use, else that of its highest id and those of its marks
+unfoldable pub listOf : ℕ → Row → List ℕ
+listOf W row = cond (row .used) ((row .highest + 2 ^ 32) ∷ marked W (row .marks) (row .highest + 2 ^ 32)) []
+
+-- a row in use
+abbrev pub rowAt : ℕ → ℕ → ℕ → ℕ → Row
+rowAt node key highest marks = record { used = true; node = node; key = key; highest = highest; marks = marks }
+
+-- a row opened for a first message: no marks
+abbrev pub opened : ℕ → ℕ → ℕ → Row
+opened node key id = rowAt node key id 0
+
+-- new: the row is in use under the name it had, with this highest id and these marks
+abbrev pub taken : Row → ℕ → ℕ → Rolled
+taken row highest marks = record { verdict = New; row = rowAt (row .node) (row .key) highest marks }
+
+-- duplicate: the row is as it was
+abbrev pub again : Row → Rolled
+again row = record { verdict = Duplicate; row = row }
+
+-- a new id: the highest is the greatest position modulo 2^32, and the marks are those of the list; a duplicate changes nothing
+unfoldable pub judged : ℕ → Row → Bool → List ℕ → Rolled
+judged W row new ps = cond new (taken row (greatest ps % 2 ^ 32) (marksNumber W ps)) (again row)
+
+-- an arriving id at a row, by the rule over B and W
+unfoldable pub rolledAt : ℕ → ℕ → Row → ℕ → Rolled
+rolledAt B W row id = judged W row (accepts B W (listOf W row) id) (step B W (listOf W row) id)
+
+-- ---- the gateway's numbers
+
+-- how many marks a row has
+abbrev pub marksHeld : ℕ
+marksHeld = 15
+
+-- B of a plain row
+abbrev pub behindPlain : ℕ
+behindPlain = 15
+
+-- B of an encrypted row
+abbrev pub behindEncrypted : ℕ
+behindEncrypted = 2 ^ 31
+
+-- B by the key id: a row is plain if that is 0, and encrypted if not
+unfoldable pub behindOf : ℕ → ℕ
+behindOf key = cond (eqb key 0) behindPlain behindEncrypted
+
+-- an arriving id at a row of the gateway
+unfoldable pub rolledOf : Row → ℕ → Rolled
+rolledOf row id = rolledAt (behindOf (row .key)) marksHeld row id
