@@ -4,3 +4,4 @@ pub mod HeaderForth
 pub mod ReadWrite
 pub mod Accepted
 pub mod WriteRead
+pub mod Outcomes

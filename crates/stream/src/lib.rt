@@ -56,8 +56,7 @@ pub fn framed_rest(stream: &[u8]) -> &[u8]
 // A message with its length before it at the front of a buffer; the buffer's other bytes stay as they
 // were. Or the refusal, 1 or 19, and all of the buffer as it was. The message is not judged.
 pub fn frame(message: &[u8], out: &mut [u8]) -> Writing
-    ensures result { λ r. ⌜ r ≡ frameOf (now (message .entry)) (length (now (out .entry))) ⌝ }
-    ensures buffer { λ r. ⌜ now (out .exit) ≡ bufferAfter r (frameBytes (now (message .entry))) (now (out .entry)) ⌝ }
+    ensures { λ r. ⌜ (r ≡ frameOf (now (message .entry)) (length (now (out .entry)))) × (now (out .exit) ≡ bufferAfter r (frameBytes (now (message .entry))) (now (out .entry))) ⌝ }
 {
     if layout::LONGEST < message.len() {
         return Writing::Refused(Refusal {

@@ -3,7 +3,7 @@ use Prim.Native.Nat.{ℕ, zero, suc, _+_, _*_, _/_, _%_, _^_, _≤_, _<_}
 use mathlib.Core.Path.{_≡_, refl, sym, ap, ap₂, _∙_}
 use mathlib.Core.List.{List, [], _∷_, _++_, reverse, reverse-reverse, reverse-cons}
 use native.Mathlib.Omega.{arith}
-use native.Mathlib.Nat.{pow-suc}
+use native.Mathlib.Nat.{pow-suc, pow-succ', mul-assoc}
 use lib.ListN.{length, getD, take, length-reverse}
 use Rattle.wire.specs.Bytes.{part, little, big, littleBytes, bigBytes}
 
@@ -74,3 +74,28 @@ pub turned : (w x : ℕ) → littleBytes w (little (bigBytes w x)) ≡ bigBytes 
 turned w x =
     ap (λ (n : ℕ). littleBytes n (little (bigBytes w x))) (sym (length-big w x))
     ∙ bytes-little (all-reverse (all-little w x))
+
+-- what stands above w bytes does not show in them
+head-low : (x y : ℕ) → (x + 256 * y) % 256 ≡ x % 256
+head-low x y = omega arith
+
+tail-low : (x y : ℕ) → (x + 256 * y) / 256 ≡ x / 256 + y
+tail-low x y = omega arith
+
+pub bytes-low : (w x q : ℕ) → littleBytes w (x + 256 ^ w * q) ≡ littleBytes w x
+bytes-low zero x q = refl
+bytes-low (suc w) x q =
+    let e : x + 256 ^ suc w * q ≡ x + 256 * (256 ^ w * q) = ap (λ (n : ℕ). x + n) (ap (λ (p : ℕ). p * q) (pow-succ' 256 w) ∙ mul-assoc 256 (256 ^ w) q) in
+    ap (λ (n : ℕ). littleBytes (suc w) n) e
+    ∙ ap₂ (λ (b : ℕ) (r : List ℕ). b ∷ r) (head-low x (256 ^ w * q)) (ap (λ (n : ℕ). littleBytes w n) (tail-low x (256 ^ w * q)) ∙ bytes-low w (x / 256) q)
+
+-- eight bytes are those of the low half and those of the high half
+low-half : (x : ℕ) → littleBytes 4 x ≡ littleBytes 4 (x % 4294967296)
+low-half x =
+    let e : x ≡ x % 4294967296 + 256 ^ 4 * (x / 4294967296) = omega arith in
+    ap (λ (n : ℕ). littleBytes 4 n) e ∙ bytes-low 4 (x % 4294967296) (x / 4294967296)
+
+pub halves : (x : ℕ) → littleBytes 8 x ≡ littleBytes 4 (x % 4294967296) ++ littleBytes 4 (x / 4294967296)
+halves x =
+    let e : x / 256 / 256 / 256 / 256 ≡ x / 4294967296 = omega arith in
+    ap₂ (λ (l : List ℕ) (y : ℕ). l ++ littleBytes 4 y) (low-half x) e

@@ -3,4 +3,5 @@ pub mod Digits
 pub mod Places
 pub mod Runs
 pub mod Parts
+pub mod One
 pub mod Laws

@@ -3,6 +3,7 @@ ghost use mathlib.Core.Path.{_≡_};
 ghost use Prim.Native.Nat.{_<_};
 ghost use lib.ListN.{getD, length};
 ghost use Rattle.wire.specs.Bytes.{little, big, front};
+use crate::order::HALF;
 use crate::order::reversed;
 
 // The byte at a place.
@@ -53,14 +54,7 @@ pub fn get64(bytes: &[u8]) -> u64
     if bytes.len() < 8 {
         return 0;
     }
-    byte(bytes, 0) as u64
-        + byte(bytes, 1) as u64 * 256
-        + byte(bytes, 2) as u64 * 65536
-        + byte(bytes, 3) as u64 * 16777216
-        + byte(bytes, 4) as u64 * 4294967296
-        + byte(bytes, 5) as u64 * 1099511627776
-        + byte(bytes, 6) as u64 * 281474976710656
-        + byte(bytes, 7) as u64 * 72057594037927936
+    get32(&bytes[0..4]) as u64 + get32(&bytes[4..8]) as u64 * HALF
 }
 
 // The first eight bytes, high byte first.

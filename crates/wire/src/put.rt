@@ -2,6 +2,7 @@
 // bytes than the number, all of it stays as it was.
 ghost use mathlib.Core.Path.{_≡_};
 ghost use Rattle.wire.specs.Bytes.{littleBytes, bigBytes, placed};
+use crate::order::HALF;
 use crate::order::reversed;
 
 // One byte.
@@ -45,17 +46,8 @@ pub fn put64(out: &mut [u8], x: u64)
     if out.len() < 8 {
         return;
     }
-    let x2 = x / 256 / 256;
-    let x4 = x2 / 256 / 256;
-    let x6 = x4 / 256 / 256;
-    out[0] = (x % 256) as u8;
-    out[1] = (x / 256 % 256) as u8;
-    out[2] = (x2 % 256) as u8;
-    out[3] = (x2 / 256 % 256) as u8;
-    out[4] = (x4 % 256) as u8;
-    out[5] = (x4 / 256 % 256) as u8;
-    out[6] = (x6 % 256) as u8;
-    out[7] = (x6 / 256 % 256) as u8;
+    put32(&mut out[0..4], (x % HALF) as u32);
+    put32(&mut out[4..8], (x / HALF) as u32);
 }
 
 // Eight bytes, high byte first.

@@ -199,8 +199,7 @@ fn store_head(out: &mut [u8], m: Message) -> usize
 // The bytes of a value at the front of a buffer, with its payload and check bytes; the buffer's other
 // bytes stay as they were. Or the refusal, and all of the buffer as it was.
 pub fn write(m: Message, payload: &[u8], check: &[u8], out: &mut [u8]) -> Writing
-    ensures result { λ r. ⌜ r ≡ writeOf m (now (payload .entry)) (now (check .entry)) (length (now (out .entry))) ⌝ }
-    ensures buffer { λ r. ⌜ now (out .exit) ≡ bufferAfter r (bytesOf m (now (payload .entry)) (now (check .entry))) (now (out .entry)) ⌝ }
+    ensures { λ r. ⌜ (r ≡ writeOf m (now (payload .entry)) (now (check .entry)) (length (now (out .entry)))) × (now (out .exit) ≡ bufferAfter r (bytesOf m (now (payload .entry)) (now (check .entry))) (now (out .entry))) ⌝ }
 {
     let answer = would_write(m, payload, check, out.len());
     match answer {

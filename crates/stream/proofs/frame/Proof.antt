@@ -24,7 +24,7 @@ returns-2 c = (simp (le-ltb _ _ (c .before .if1 .left), lt-ltb _ _ (c .if2 .take
 
 returns-3 : tie.Need-returns-3
 unfolding frameOf framingOrder frameBytes
-returns-3 c = 
+returns-3 c =
     let a = c .before .before .before .before .before .before .before .before .before .before .before .before .args in
     let p = a .message .now in
     let old = a .out .now in
@@ -35,13 +35,14 @@ returns-3 c =
     let l : length mid ≡ length old = ap length e ∙ length-sets old 0 first in
     let room : 2 + length p ≤ length mid = omega (arith, c .before .before .before .before .before .before .before .before .if2 .left) in
     let n : length (first ++ p) ≡ 2 + length p = length-append first p in
-    let f : length (first ++ p) ≤ length old = omega (arith, c .before .before .before .before .before .before .before .before .if2 .left) in
-    (simp (le-ltb _ _ (c .before .before .before .before .before .before .before .before .before .if1 .left), le-ltb _ _ (c .before .before .before .before .before .before .before .before .if2 .left)),
-    place-copy mid p (c .before .before .copy .last .1 .0) 2 room (c .before .before .copy .ensures .1)
-    ∙ ap (λ (x : List ℕ). sets x 2 p) e
-    ∙ sets-then old 0 first p 2 refl
-    ∙ sets-front old (first ++ p) f
-    ∙ ap (λ (i : ℕ). first ++ p ++ drop i old) n)
+    let f : length (first ++ p) ≤ length old = omega (arith, c .before .before .before .before .before .before .before .before .if2 .left) in (
+      simp (le-ltb _ _ (c .before .before .before .before .before .before .before .before .before .if1 .left), le-ltb _ _ (c .before .before .before .before .before .before .before .before .if2 .left)),
+      place-copy mid p (c .before .before .copy .last .1 .0) 2 room (c .before .before .copy .ensures .1)
+          ∙ ap (λ (x : List ℕ). sets x 2 p) e
+          ∙ sets-then old 0 first p 2 refl
+          ∙ sets-front old (first ++ p) f
+          ∙ ap (λ (i : ℕ). first ++ p ++ drop i old) n,
+    )
 
 pub frame-spec : {M : Type 1} → statement M
 frame-spec =

@@ -16,14 +16,14 @@ returns : tie.Need-returns
 returns c = let s = c .before .before .args .stream .now in sym (unframe-wants s (2 - length s) (wanted-short s (c .if1 .taken)) (omega arith))
 
 returns-2 : tie.Need-returns-2
-returns-2 c = 
+returns-2 c =
     let s = c .before .before .before .before .args .stream .now in
     let d : c .before .get16 .result ≡ demanded s = c .before .get16 .ensures ∙ ap little (front-part 2 s (c .before .before .if1 .left)) in
     let w : 2 + demanded s - length s ≡ 2 + c .before .get16 .result - length s = omega arith in
     sym (unframe-wants s _ (wanted-long s (c .before .before .if1 .left) ∙ w) (omega arith))
 
 returns-3 : tie.Need-returns-3
-returns-3 c = 
+returns-3 c =
     let s = c .before .before .before .before .args .stream .now in
     let d : c .before .get16 .result ≡ demanded s = c .before .get16 .ensures ∙ ap little (front-part 2 s (c .before .before .if1 .left)) in
     let w : 2 + demanded s - length s ≡ 0 = omega arith in

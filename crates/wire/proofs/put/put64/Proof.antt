@@ -1,8 +1,15 @@
--- A slice that is too short stays as it was; else the stores are a run from its front. Assumes nothing.
+-- A slice that is too short stays as it was; else the two halves are one run from its front. Assumes nothing.
+use Prim.Native.Nat.{ℕ, _+_, _%_, _/_, _≤_}
+use mathlib.Core.Path.{_≡_, refl, sym, ap, _∙_}
+use mathlib.Core.List.{List, _++_}
 use native.Mathlib.Omega.{arith}
-use lib.ListN.{length-set}
+use lib.ListN.{length, take, drop}
+use lib.Seq.{sets, length-sets}
 use Rattle.wire.specs.Bytes.{littleBytes}
+use Rattle.wire.proofs.Digits.{halves}
 use Rattle.wire.proofs.Fronts.{put-short, sets-placed}
+use Rattle.wire.proofs.Places.{place-put}
+use Rattle.wire.proofs.Runs.{sets-then}
 use borrow.Author.Needs.{needs}
 use Rattle.wire.proofs.put.put64.Statement.{statement}
 use Rattle.wire.proofs.put.put64.Tie as tie
@@ -10,32 +17,22 @@ use Rattle.wire.proofs.put.put64.Tie as tie
 returns : tie.Need-returns
 returns c = put-short (littleBytes 8 _) _ (c .if1 .taken)
 
-slice-write-out-2 : tie.Need-slice-write-out-2
-slice-write-out-2 c = simp length-set (omega arith)
-
-slice-write-out-3 : tie.Need-slice-write-out-3
-slice-write-out-3 c = simp length-set (omega arith)
-
-slice-write-out-4 : tie.Need-slice-write-out-4
-slice-write-out-4 c = simp length-set (omega arith)
-
-slice-write-out-5 : tie.Need-slice-write-out-5
-slice-write-out-5 c = simp length-set (omega arith)
-
-slice-write-out-6 : tie.Need-slice-write-out-6
-slice-write-out-6 c = simp length-set (omega arith)
-
-slice-write-out-7 : tie.Need-slice-write-out-7
-slice-write-out-7 c = simp length-set (omega arith)
-
-slice-write-out-8 : tie.Need-slice-write-out-8
-slice-write-out-8 c = simp length-set (omega arith)
-
-same-length : tie.Need-same-length
-same-length c = simp length-set
-
 returns-2 : tie.Need-returns-2
-returns-2 c = sets-placed (littleBytes 8 (c .before .args .x)) _ (c .if1 .left)
+returns-2 c =
+    let a = c .before .before .before .before .before .before .before .before .before .before .args in
+    let x = a .x in
+    let old = a .out .now in
+    let low = littleBytes 4 (x % 4294967296) in
+    let high = littleBytes 4 (x / 4294967296) in
+    let mid : List ℕ = take 0 old ++ (c .before .before .before .before .before .before .put32 .last .0 ++ drop 4 (drop 0 old)) in
+    let eight : 8 ≤ length old = c .before .before .before .before .before .before .before .before .if1 .left in
+    let e : mid ≡ sets old 0 low = place-put old low (c .before .before .before .before .before .before .put32 .last .0) 0 4 refl (omega arith) (c .before .before .before .before .before .before .put32 .ensures) in
+    let l : length mid ≡ length old = ap length e ∙ length-sets old 0 low in
+    place-put mid high (c .before .before .put322 .last .0) 4 4 refl (omega arith) (c .before .before .put322 .ensures)
+    ∙ ap (λ (m : List ℕ). sets m 4 high) e
+    ∙ sets-then old 0 low high 4 refl
+    ∙ ap (λ (v : List ℕ). sets old 0 v) (sym (halves x))
+    ∙ sets-placed (littleBytes 8 x) old eight
 
 pub put64-spec : {M : Type 1} → statement M
 put64-spec =
@@ -45,18 +42,12 @@ put64-spec =
     (λ c. search needs)
     (λ c. search needs)
     (λ c. search needs)
-    slice-write-out-2
     (λ c. search needs)
-    slice-write-out-3
+    (λ c κs. search needs)
     (λ c. search needs)
-    slice-write-out-4
     (λ c. search needs)
-    slice-write-out-5
     (λ c. search needs)
-    slice-write-out-6
     (λ c. search needs)
-    slice-write-out-7
+    (λ c κs. search needs)
     (λ c. search needs)
-    slice-write-out-8
-    same-length
     returns-2)
