@@ -4,4 +4,7 @@ pub mod HeaderForth
 pub mod ReadWrite
 pub mod Accepted
 pub mod WriteRead
+pub mod Framing
+pub mod Outer
 pub mod Outcomes
+pub mod Promises

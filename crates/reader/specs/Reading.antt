@@ -4,7 +4,7 @@ use mathlib.Core.Bool.{Bool, cond}
 use mathlib.Core.List.{List, [], _∷_, _++_}
 use lib.Dec.{leb, ltb}
 use lib.ListN.{length, getD, take, drop}
-use Rattle.message.specs.Order.{Condition, _when_, first}
+use Rattle.message.specs.Order.{Condition, _when_, first, noneOf}
 use Rattle.message.specs.Layout.{encrypted, bodyOf, checkLength, headLength, fixedLength}
 use Rattle.message.specs.Value.{header, exchangeHeader, messageOf}
 use Rattle.message.specs.Refusals.{tooLong, badVersion, reserved, oldTunnel, badEncrypt, badKey, badSource, badDestination, badExchange, oldAsks, badTunnel, badPacket, noRoom}
@@ -47,6 +47,10 @@ bodyOrder bytes m = cond (m .tunnelled) (tunnelOrder bytes m) (exchangeOrder (ex
 -- the order of reading
 unfoldable pub readingOrder : List ℕ → List Condition
 readingOrder bytes = outerOrder bytes (messageOf bytes) ++ bodyOrder bytes (messageOf bytes)
+
+-- a legal message: none of the conditions holds
+abbrev pub Legal : List ℕ → Type 0
+Legal bytes = noneOf (readingOrder bytes)
 
 unfoldable pub readOf : List ℕ → Reading
 readOf bytes = reading (first (readingOrder bytes)) (messageOf bytes)

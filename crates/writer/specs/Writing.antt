@@ -2,7 +2,7 @@
 use Prim.Native.Nat.{ℕ}
 use mathlib.Core.List.{List, [], _∷_}
 use lib.Dec.{ltb}
-use Rattle.message.specs.Order.{Condition, _when_, first}
+use Rattle.message.specs.Order.{Condition, _when_, first, noneOf}
 use Rattle.message.specs.Refusals.{tooLong, badVersion, oldTunnel, badEncrypt, badKey, badSource, badDestination, oldAsks, emptyPacket, wrongPacket, stray, total}
 use Rattle.message.specs.Answers.{writing}
 use Rattle.message.specs.declared.value.Message.{Message}
@@ -24,6 +24,10 @@ writingOrder m payload check room =
     ∷ 1 when tooLong (total m payload)
     ∷ 19 when ltb room (total m payload)
     ∷ []
+
+-- what can be written: none of the conditions holds
+abbrev pub Writable : Message → List ℕ → List ℕ → ℕ → Type 0
+Writable m payload check room = noneOf (writingOrder m payload check room)
 
 unfoldable pub writeOf : Message → List ℕ → List ℕ → ℕ → Writing
 writeOf m payload check room = writing (first (writingOrder m payload check room)) (total m payload)

@@ -1,0 +1,203 @@
+-- What the message format promises, each as a theorem of its own. The laws behind them are in the other files of this folder. Assumes nothing.
+
+-- Only one outcome fits each public contract.
+pub use Rattle.format.proofs.Outcomes.{one-read, one-read-outer, one-payload, one-check, one-would-write, one-write, one-unframe, one-framed-message, one-framed-rest, one-frame}
+use Prim.Native.Nat.{ℕ, zero, suc, _+_, _-_, _≤_, _<_}
+use mathlib.Core.Path.{_≡_, refl, sym, ap, ap₂, _∙_}
+use mathlib.Core.Bool.{Bool, true, false, cond}
+use mathlib.Core.List.{List, _++_}
+use native.Mathlib.Omega.{arith}
+use lib.ListN.{length, take, drop}
+use lib.Seq.{take-at}
+use Rattle.wire.proofs.Digits.{AllBytes}
+use Rattle.message.specs.Order.{Condition, first, noneOf}
+use Rattle.message.specs.Layout.{encrypted, bodyOf}
+use Rattle.message.specs.Value.{messageOf, bytesOf}
+use Rattle.message.specs.Refusals.{total}
+use Rattle.message.specs.Answers.{refusal, reading, outerReading, writing, readingNumber, outerNumber, writingNumber, bufferAfter}
+use Rattle.message.specs.declared.value.Message.{Message}
+use Rattle.message.specs.declared.answers.Refusal.{Refusal}
+use Rattle.message.specs.declared.answers.Reading.{Reading}
+use Rattle.message.specs.declared.answers.Reading.the-variants as Reading
+use Rattle.message.specs.declared.answers.OuterReading.{OuterReading}
+use Rattle.message.specs.declared.answers.OuterReading.the-variants as OuterReading
+use Rattle.message.specs.declared.answers.Writing.{Writing}
+use Rattle.message.specs.declared.answers.Writing.the-variants as Writing
+use Rattle.message.specs.declared.answers.Unframed.the-variants.{Whole, Incomplete}
+use Rattle.message.proofs.Order.{FirstToHold, first-none, first-holds, holds-first, first-hit, first-pass}
+use Rattle.message.proofs.Lengths.{length-bytes}
+use Rattle.reader.specs.Reading.{outerOrder, bodyOrder, readingOrder, Legal, readOf, payloadOf, checkOf, startOf, outerOf}
+use Rattle.reader.proofs.Begun.{outer-numbered}
+use Rattle.reader.proofs.Clear.{taken-legal, taken}
+use Rattle.writer.specs.Writing.{writingOrder, Writable, writeOf}
+use Rattle.writer.proofs.Clear.{written-legal, written}
+use Rattle.stream.specs.Stream.{demanded, wanted, unframeOf, framedMessage, framedRest, frameBytes, framingOrder, frameOf}
+use Rattle.format.proofs.ReadWrite.{read-back}
+use Rattle.format.proofs.Accepted.{accept}
+use Rattle.format.proofs.WriteRead.{Sized, SameRead, write-read}
+use Rattle.format.proofs.Framing as framing
+use Rattle.format.proofs.Outer.{Protects, outer-place, protects}
+
+-- ---- taken exactly when legal
+
+-- Bytes are taken exactly when none of the conditions holds, and then with the value that the fields say.
+pub taken-when-legal : (bytes : List ℕ) → Legal bytes → readOf bytes ≡ Reading.Taken (messageOf bytes)
+unfolding readOf
+taken-when-legal bytes h = ap (λ (n : ℕ). reading n (messageOf bytes)) (first-none (readingOrder bytes) h)
+
+pub legal-when-taken : (bytes : List ℕ) (m : Message) → readOf bytes ≡ Reading.Taken m → Legal bytes × (messageOf bytes ≡ m)
+legal-when-taken bytes m e = (taken-legal bytes m e, taken bytes m e .0)
+
+-- A value is written exactly when none of the conditions holds, and then as many bytes as the message has.
+pub written-when-writable : (m : Message) (payload check : List ℕ) (room : ℕ) → Writable m payload check room → writeOf m payload check room ≡ Writing.Written (total m payload)
+unfolding writeOf
+written-when-writable m payload check room h = ap (λ (n : ℕ). writing n (total m payload)) (first-none (writingOrder m payload check room) h)
+
+pub writable-when-written : (m : Message) (payload check : List ℕ) (room n : ℕ) → writeOf m payload check room ≡ Writing.Written n
+    → Writable m payload check room × (total m payload ≡ n)
+writable-when-written m payload check room n e = (written-legal m payload check room n e, written m payload check room n e .0)
+
+-- ---- each refusal exactly when its condition is the first in its order to hold
+
+-- an answer made of a number is a refusal by that number, and by no other
+reading-number : (k n : ℕ) (m : Message) → reading k m ≡ Reading.Refused (refusal n) → (k ≡ n) × (0 < n)
+reading-number zero n m e = let z : _≡_ {A = ℕ} 0 1 = cc in let w : ⊥ = omega arith in absurd w
+reading-number (suc k) n m e = let f : suc k ≡ n = ap readingNumber e in (f, omega arith)
+
+outer-number : (k n start len : ℕ) → outerReading k start len ≡ OuterReading.Refused (refusal n) → (k ≡ n) × (0 < n)
+outer-number zero n start len e = let z : _≡_ {A = ℕ} 0 1 = cc in let w : ⊥ = omega arith in absurd w
+outer-number (suc k) n start len e = let f : suc k ≡ n = ap outerNumber e in (f, omega arith)
+
+writing-number : (k n len : ℕ) → writing k len ≡ Writing.Refused (refusal n) → (k ≡ n) × (0 < n)
+writing-number zero n len e = let z : _≡_ {A = ℕ} 0 1 = cc in let w : ⊥ = omega arith in absurd w
+writing-number (suc k) n len e = let f : suc k ≡ n = ap writingNumber e in (f, omega arith)
+
+-- and a number that is not 0 makes that refusal
+reading-hit : (n : ℕ) (m : Message) → 0 < n → reading n m ≡ Reading.Refused (refusal n)
+reading-hit zero m h = let z : ⊥ = omega arith in absurd z
+reading-hit (suc n) m h = refl
+
+outer-hit : (n start len : ℕ) → 0 < n → outerReading n start len ≡ OuterReading.Refused (refusal n)
+outer-hit zero start len h = let z : ⊥ = omega arith in absurd z
+outer-hit (suc n) start len h = refl
+
+writing-hit : (n len : ℕ) → 0 < n → writing n len ≡ Writing.Refused (refusal n)
+writing-hit zero len h = let z : ⊥ = omega arith in absurd z
+writing-hit (suc n) len h = refl
+
+-- the first condition to hold, and its number is not 0
+found : (n : ℕ) (order : List Condition) → (first order ≡ n) × (0 < n) → FirstToHold n order
+found zero order h = let l : 0 < 0 = h .1 in let z : ⊥ = omega arith in absurd z
+found (suc n) order h = holds-first n order (h .0)
+
+module _ (bytes : List ℕ) (n : ℕ) where
+  -- Reading.
+  pub reading-refused-first : readOf bytes ≡ Reading.Refused (refusal n) → FirstToHold n (readingOrder bytes)
+  unfolding readOf
+  reading-refused-first e = found n (readingOrder bytes) (reading-number _ n (messageOf bytes) e)
+
+  pub reading-first-refused : 0 < n → FirstToHold n (readingOrder bytes) → readOf bytes ≡ Reading.Refused (refusal n)
+  unfolding readOf
+  reading-first-refused l w = ap (λ (k : ℕ). reading k (messageOf bytes)) (first-holds n (readingOrder bytes) w) ∙ reading-hit n (messageOf bytes) l
+
+  -- Outer reading: its order is the front of reading's.
+  pub outer-refused-first : outerOf bytes ≡ OuterReading.Refused (refusal n) → FirstToHold n (outerOrder bytes (messageOf bytes))
+  unfolding outerOf
+  outer-refused-first e = found n (outerOrder bytes (messageOf bytes)) (outer-number _ n _ _ e)
+
+  pub outer-first-refused : 0 < n → FirstToHold n (outerOrder bytes (messageOf bytes)) → outerOf bytes ≡ OuterReading.Refused (refusal n)
+  unfolding outerOf
+  outer-first-refused l w =
+      ap (λ (k : ℕ). outerReading k (startOf bytes (messageOf bytes)) (length bytes - startOf bytes (messageOf bytes))) (first-holds n (outerOrder bytes (messageOf bytes)) w)
+      ∙ outer-hit n _ _ l
+
+-- Writing.
+module _ (m : Message) (payload check : List ℕ) (room n : ℕ) where
+  pub writing-refused-first : writeOf m payload check room ≡ Writing.Refused (refusal n) → FirstToHold n (writingOrder m payload check room)
+  unfolding writeOf
+  writing-refused-first e = found n (writingOrder m payload check room) (writing-number _ n (total m payload) e)
+
+  pub writing-first-refused : 0 < n → FirstToHold n (writingOrder m payload check room) → writeOf m payload check room ≡ Writing.Refused (refusal n)
+  unfolding writeOf
+  writing-first-refused l w = ap (λ (k : ℕ). writing k (total m payload)) (first-holds n (writingOrder m payload check room) w) ∙ writing-hit n (total m payload) l
+
+-- Framing.
+module _ (message : List ℕ) (room n : ℕ) where
+  pub framing-refused-first : frameOf message room ≡ Writing.Refused (refusal n) → FirstToHold n (framingOrder message room)
+  unfolding frameOf
+  framing-refused-first e = found n (framingOrder message room) (writing-number _ n (2 + length message) e)
+
+  pub framing-first-refused : 0 < n → FirstToHold n (framingOrder message room) → frameOf message room ≡ Writing.Refused (refusal n)
+  unfolding frameOf
+  framing-first-refused l w = ap (λ (k : ℕ). writing k (2 + length message)) (first-holds n (framingOrder message room) w) ∙ writing-hit n (2 + length message) l
+
+-- ---- read, then written
+
+-- What was read is written with its payload and check, where there is room, to the same bytes, and the buffer's other bytes stay.
+pub read-then-written : (bytes old : List ℕ) → AllBytes bytes → (m : Message) → readOf bytes ≡ Reading.Taken m → length bytes ≤ length old
+    → let r = readOf bytes in
+    let answer = writeOf m (payloadOf bytes r) (checkOf bytes r) (length old) in
+    (answer ≡ Writing.Written (length bytes)) × (bufferAfter answer (bytesOf m (payloadOf bytes r) (checkOf bytes r)) old ≡ bytes ++ drop (length bytes) old)
+read-then-written bytes old all m e h =
+    let a = accept bytes m (length old) e h in
+    (a, ap₂ (λ (w : Writing) (l : List ℕ). bufferAfter w l old) a (read-back bytes all m e))
+
+-- ---- written, then read
+
+-- What was written at the front of a buffer reads back to the same value, the same payload and the same check. `Sized` says that the fields
+-- are within their types, as those of every value are.
+pub written-then-read : (m : Message) (payload check old : List ℕ) (n : ℕ) → Sized m → writeOf m payload check (length old) ≡ Writing.Written n
+    → SameRead m payload check (take n (bufferAfter (Writing.Written n) (bytesOf m payload check) old))
+written-then-read m payload check old n z e =
+    let w = written m payload check (length old) n e in
+    let l : length (bytesOf m payload check) ≡ n = length-bytes m payload check (w .1 .check) ∙ w .0 in
+    rw (take-at (bytesOf m payload check) (drop n old) n l) (write-read m payload check (length old) n z e)
+
+-- ---- outer reading and reading
+
+-- What outer reading refuses, reading refuses with the same number.
+pub outer-agrees : (bytes : List ℕ) (n : ℕ) → outerOf bytes ≡ OuterReading.Refused (refusal n) → readOf bytes ≡ Reading.Refused (refusal n)
+unfolding outerOf readOf readingOrder
+outer-agrees bytes n e =
+    let k = outer-number _ n _ _ e in
+    ap (λ (j : ℕ). reading j (messageOf bytes))
+    (first-hit (outerOrder bytes (messageOf bytes)) (bodyOrder bytes (messageOf bytes)) (λ z. let y : n ≡ 0 = sym (k .0) ∙ z in let l : 0 < n = k .1 in omega arith) ∙ k .0)
+    ∙ reading-hit n (messageOf bytes) (k .1)
+
+-- Where outer reading refuses nothing, what is left of reading's order decides.
+pub reading-after-outer : (bytes : List ℕ) (start len : ℕ) → outerOf bytes ≡ OuterReading.Protected start len
+    → readOf bytes ≡ reading (first (bodyOrder bytes (messageOf bytes))) (messageOf bytes)
+unfolding outerOf readOf readingOrder
+reading-after-outer bytes start len e =
+    ap (λ (n : ℕ). reading n (messageOf bytes))
+    (first-pass (outerOrder bytes (messageOf bytes)) (bodyOrder bytes (messageOf bytes)) (outer-numbered bytes (messageOf bytes)) (outer-place _ _ _ start len e .0))
+
+-- The protected part runs to the end. It starts after the key id, and of a plain message it is empty, at the end.
+pub protected-part : (bytes : List ℕ) (start len : ℕ) → outerOf bytes ≡ OuterReading.Protected start len → Protects bytes start len
+unfolding outerOf
+protected-part bytes start len e =
+    let p = outer-place _ _ _ start len e in
+    protects bytes start len (p .0) (p .1) (p .2)
+
+-- ---- the stream
+
+-- Framed, then unframed: the message and what follows it, for every message that is framed.
+pub framed-then-unframed : (message rest : List ℕ) (room n : ℕ) → frameOf message room ≡ Writing.Written n → framing.Unframes (frameBytes message ++ rest) message rest
+framed-then-unframed message rest room n e = framing.framed-unframes message rest (framing.framed-short message room n e)
+
+-- Unframed, then framed: the same bytes; and a message of up to 1,232 bytes is framed where there is room.
+pub unframed-then-framed : (stream : List ℕ) → AllBytes stream → (n : ℕ) → unframeOf stream ≡ Whole n → frameBytes (framedMessage stream) ++ framedRest stream ≡ stream
+unframed-then-framed = framing.reframed
+
+pub framed-up-to-the-longest : (message : List ℕ) (room : ℕ) → length message ≤ 1232 → 2 + length message ≤ room → frameOf message room ≡ Writing.Written (2 + length message)
+framed-up-to-the-longest = framing.framing-taken
+
+-- The bytes wanted make the length field whole, no longer; then they make the message whole; fewer leave as many wanted as are missing.
+pub wanted-for-the-length-field : (stream more : List ℕ) → length stream < 2 → length more ≡ wanted stream → length (stream ++ more) ≡ 2
+wanted-for-the-length-field = framing.length-field-first
+
+pub wanted-makes-whole : (stream more : List ℕ) → 2 ≤ length stream → length more ≡ wanted stream → unframeOf (stream ++ more) ≡ Whole (demanded stream)
+wanted-makes-whole = framing.wanted-makes-whole
+
+pub fewer-leave-the-rest : (stream more : List ℕ) → 2 ≤ length stream → length more < wanted stream → unframeOf (stream ++ more) ≡ Incomplete (wanted stream - length more)
+fewer-leave-the-rest = framing.fewer-leave-the-rest
