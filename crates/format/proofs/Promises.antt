@@ -6,14 +6,15 @@ use Prim.Native.Nat.{ℕ, zero, suc, _+_, _-_, _≤_, _<_}
 use mathlib.Core.Path.{_≡_, refl, sym, ap, ap₂, _∙_}
 use mathlib.Core.Bool.{Bool, true, false, cond}
 use mathlib.Core.List.{List, _++_}
+use native.Mathlib.Nat.{le-refl}
 use native.Mathlib.Omega.{arith}
 use lib.ListN.{length, take, drop}
 use lib.Seq.{take-at}
 use Rattle.wire.proofs.Digits.{AllBytes}
 use Rattle.message.specs.Order.{Condition, first, noneOf}
-use Rattle.message.specs.Layout.{encrypted, bodyOf}
+use Rattle.message.specs.Layout.{checkBytes, bodyAt}
 use Rattle.message.specs.Value.{messageOf, bytesOf}
-use Rattle.message.specs.Refusals.{total}
+use Rattle.message.specs.Refusals.{strayAddress, strayExchange, total}
 use Rattle.message.specs.Answers.{refusal, reading, outerReading, writing, readingNumber, outerNumber, writingNumber, bufferAfter}
 use Rattle.message.specs.declared.value.Message.{Message}
 use Rattle.message.specs.declared.answers.Refusal.{Refusal}
@@ -56,6 +57,10 @@ written-when-writable m payload check room h = ap (λ (n : ℕ). writing n (tota
 pub writable-when-written : (m : Message) (payload check : List ℕ) (room n : ℕ) → writeOf m payload check room ≡ Writing.Written n
     → Writable m payload check room × (total m payload ≡ n)
 writable-when-written m payload check room n e = (written-legal m payload check room n e, written m payload check room n e .0)
+
+-- The fixed part of a general message: 14 bytes, with both nodes 30, encrypted 36 and 52, the check included.
+pub fixed-lengths : (bodyAt false false false + 8 ≡ 14) × (bodyAt true true false + 8 ≡ 30) × (bodyAt false false true + 8 + checkBytes ≡ 36) × (bodyAt true true true + 8 + checkBytes ≡ 52)
+fixed-lengths = (refl, refl, refl, refl)
 
 -- ---- each refusal exactly when its condition is the first in its order to hold
 
@@ -141,6 +146,12 @@ pub read-then-written : (bytes old : List ℕ) → AllBytes bytes → (m : Messa
 read-then-written bytes old all m e h =
     let a = accept bytes m (length old) e h in
     (a, ap₂ (λ (w : Writing) (l : List ℕ). bufferAfter w l old) a (read-back bytes all m e))
+
+-- A value that was read has zero in every absent field, all exchange fields of a tunnelled message among them.
+pub absent-fields-are-zero : (bytes : List ℕ) (m : Message) → readOf bytes ≡ Reading.Taken m → (strayAddress m ≡ false) × (strayExchange m ≡ false)
+absent-fields-are-zero bytes m e =
+    let k = written m _ _ _ _ (accept bytes m (length bytes) e (le-refl (length bytes))) .1 in
+    (k .address, k .exchange)
 
 -- ---- written, then read
 
