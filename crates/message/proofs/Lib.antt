@@ -3,3 +3,4 @@ pub mod Order
 pub mod Lengths
 pub mod Numbered
 pub mod Low
+pub mod Outcomes

@@ -33,12 +33,11 @@ fn bad_exchange(x: u8) -> bool
         | (x / layout::EXCHANGE_RESERVED_HIGH % 8 != 0)
 }
 
-// A value with the exchange fields that stand at a place, the exchange header among them.
-fn with_exchange(m: Message, bytes: &[u8], at: usize) -> Message
-    requires { ⌜ at + 8 + only (bit (little (part (now bytes) at 1)) 1) 4 ≤ length (now bytes) ⌝ }
+// A value with the exchange fields that stand at a place; `x` is the exchange header there.
+fn with_exchange(m: Message, bytes: &[u8], at: usize, x: u8) -> Message
+    requires { ⌜ (x ≡ little (part (now bytes) at 1)) × (at + 8 + only (bit x 1) 4 ≤ length (now bytes)) ⌝ }
     ensures { λ r. ⌜ r ≡ exchanged m (now (bytes .entry)) at ⌝ }
 {
-    let x = fields::field8(bytes, at);
     let acknowledges = x / layout::A % 2 == 1;
     Message {
         version: m.version,
@@ -79,7 +78,7 @@ fn read_exchange(bytes: &[u8], m: Message) -> Reading
     if acknowledges & (bytes.len() < end) {
         return refused(Refusal::TOO_SHORT);
     }
-    Reading::Taken(with_exchange(m, bytes, at))
+    Reading::Taken(with_exchange(m, bytes, at, x))
 }
 
 // A tunnelled message, from its value up to the key id: 12, 13.

@@ -76,10 +76,3 @@ length-placed new old = by (leb (length new) (length old)) refl
         let fits : length new ≤ length old = leb-true _ _ h in
         ap length (placed-whole new old fits) ∙ simp (length-append, length-drop) (omega arith)
     by false h = ap length (placed-short new old (leb-false _ _ h))
-
--- only one outcome fits the contract of a get, and of a put
-pub get-one : {r s : ℕ} (n : ℕ) → r ≡ n → s ≡ n → r ≡ s
-get-one n p q = p ∙ sym q
-
-pub put-one : {l m : List ℕ} (new old : List ℕ) → l ≡ placed new old → m ≡ placed new old → l ≡ m
-put-one new old p q = p ∙ sym q

@@ -4,4 +4,5 @@ pub mod Places
 pub mod Runs
 pub mod Parts
 pub mod One
+pub mod Outcomes
 pub mod Laws

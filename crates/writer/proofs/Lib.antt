@@ -1,3 +1,4 @@
+pub mod Maybe
 pub mod Steps
 pub mod Writings
 pub mod Clear

@@ -34,7 +34,10 @@ returns-3 c =
 
 with-exchange-requires : tie.Need-with-exchange-requires
 with-exchange-requires c κs =
-    rw (← (c .before .before .before .before .before .before .field8 .ensures)) (exchange-fits (bit (c .before .before .before .before .before .before .field8 .result) 1) _ (c .before .check-length .result) _ _ (let h = c .before .before .before .before .before .before .before .before .before .pre .1 in let b = c .before .before .before .before .before .before .before .body-of .ensures .0 in let k = c .before .check-length .ensures .0 in omega arith) refl (c .if3 .left))
+    let h = c .before .before .before .before .before .before .before .before .before .pre .1 in
+    let b = c .before .before .before .before .before .before .before .body-of .ensures .0 in
+    let k = c .before .check-length .ensures .0 in
+    (c .before .before .before .before .before .before .field8 .ensures, exchange-fits (bit (c .before .before .before .before .before .before .field8 .result) 1) _ (c .before .check-length .result) _ _ (omega arith) refl (c .if3 .left))
 
 returns-4 : tie.Need-returns-4
 returns-4 c =

@@ -5,18 +5,14 @@ use borrow.Author.Needs.{needs}
 use Rattle.reader.proofs.reading.with_exchange.Statement.{statement}
 use Rattle.reader.proofs.reading.with_exchange.Tie as tie
 
-maybe32-requires : tie.Need-maybe32-requires
-maybe32-requires c κs = rw (c .before .before .before .field8 .ensures) (c .before .before .before .before .before .pre)
-
 returns : tie.Need-returns
 unfolding exchanged
-returns c = simp (c .before .before .before .before .field8 .ensures, c .before .before .before .field82 .ensures, c .before .before .field16 .ensures, c .before .field32 .ensures, c .maybe32 .ensures, div-one)
+returns c = simp (← (c .before .before .before .before .before .pre .0), c .before .before .before .field8 .ensures, c .before .before .field16 .ensures, c .before .field32 .ensures, c .maybe32 .ensures, div-one)
 
 pub with-exchange-spec : {M : Type 1} → statement M
 with-exchange-spec =
     tie.close
     (tie.spec
-    (λ c κs. search needs)
     (λ c. search needs)
     (λ c κs. search needs)
     (λ c. search needs)
@@ -24,5 +20,5 @@ with-exchange-spec =
     (λ c. search needs)
     (λ c κs. search needs)
     (λ c. search needs)
-    maybe32-requires
+    (λ c κs. search needs)
     returns)
