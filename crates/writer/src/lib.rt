@@ -1,6 +1,7 @@
 // Writing a message: what it would answer, and the bytes of a value at the front of a buffer.
+mod judging;
 mod stores;
 mod writing;
 
-pub use writing::would_write;
+pub use judging::would_write;
 pub use writing::write;

@@ -1,133 +1,19 @@
-// Writing: what it would answer, and the bytes of a value at the front of a buffer.
+// Writing: the bytes of a value at the front of a buffer.
 ghost use mathlib.Core.Path.{_≡_};
 ghost use Prim.Native.Nat.{_+_, _≤_};
 ghost use lib.ListN.{length};
 ghost use lib.Seq.{sets};
-ghost use Rattle.message.specs.Order.{first};
 ghost use Rattle.message.specs.Layout.{only, bodyOf, headLength};
 ghost use Rattle.message.specs.Value.{headerOf, exchangeHeaderOf, addressBytes, exchangeBytes, headBytes, bytesOf};
-ghost use Rattle.message.specs.Refusals.{strayAddress, strayExchange, stray, emptyPacket, wrongPacket, total};
 ghost use Rattle.message.specs.Answers.{bufferAfter};
 ghost use Rattle.writer.specs.Writing.{writeOf};
-ghost use Rattle.writer.specs.Steps.{valueOrder, partsOrder};
+use crate::judging;
 use crate::stores;
 use message::Message;
-use message::Refusal;
 use message::Writing;
 use message::layout;
 
-// The number of the refusal that the value alone decides, or 0.
-fn value_refusal(m: Message) -> u8
-    ensures { λ r. ⌜ r ≡ first (valueOrder m) ⌝ }
-{
-    if message::bad_version(m.version) {
-        return Refusal::VERSION;
-    }
-    if message::old_tunnel(m.version, m.tunnelled) {
-        return Refusal::OLD_TUNNEL;
-    }
-    if message::bad_encrypt(m.encrypt) {
-        return Refusal::ENCRYPT;
-    }
-    let by_address = message::address_refusal(m);
-    if by_address != 0 {
-        return by_address;
-    }
-    if message::old_asks(m.version, m.acknowledges, m.wants) {
-        return Refusal::OLD_ASKS;
-    }
-    0
-}
-
-// A packet is wanted and there is none.
-fn empty_packet(m: Message, payload: &[u8]) -> bool
-    ensures { λ r. ⌜ r ≡ emptyPacket m (now (payload .entry)) ⌝ }
-{
-    m.tunnelled & (payload.len() == 0)
-}
-
-// A packet is wanted and its first byte is not one's.
-fn wrong_packet(m: Message, payload: &[u8]) -> bool
-    ensures { λ r. ⌜ r ≡ wrongPacket m (now (payload .entry)) ⌝ }
-{
-    m.tunnelled & message::bad_packet(wire::get8(payload))
-}
-
-// An absent address field is not zero.
-fn stray_address(m: Message) -> bool
-    ensures { λ r. ⌜ r ≡ strayAddress m ⌝ }
-{
-    (!m.sourced & (m.source != 0))
-        | (!m.destined & (m.destination != 0))
-        | (!(m.encrypt == layout::ENCRYPTED) & (m.key != 0))
-}
-
-// An absent exchange field is not zero.
-fn stray_exchange(m: Message) -> bool
-    ensures { λ r. ⌜ r ≡ strayExchange m ⌝ }
-{
-    (!m.acknowledges & (m.acknowledged != 0))
-        | (m.tunnelled
-            & (m.initiator
-                | m.acknowledges
-                | m.wants
-                | (m.kind != 0)
-                | (m.exchange != 0)
-                | (m.profile != 0)))
-}
-
-// 14
-fn is_stray(m: Message, check: &[u8]) -> bool
-    ensures { λ r. ⌜ r ≡ stray m (now (check .entry)) ⌝ }
-{
-    stray_address(m) | stray_exchange(m) | (check.len() != message::check_length(m))
-}
-
-// The length of the message.
-fn total_length(m: Message, payload: &[u8]) -> usize
-    ensures { λ r. ⌜ r ≡ total m (now (payload .entry)) ⌝ }
-{
-    message::head_length(m) + payload.len() + message::check_length(m)
-}
-
-// The number of the refusal that the payload, the check bytes and the room decide, or 0.
-fn parts_refusal(m: Message, payload: &[u8], check: &[u8], room: usize) -> u8
-    ensures { λ r. ⌜ r ≡ first (partsOrder m (now (payload .entry)) (now (check .entry)) room) ⌝ }
-{
-    if empty_packet(m, payload) {
-        return Refusal::TOO_SHORT;
-    }
-    if wrong_packet(m, payload) {
-        return Refusal::PACKET;
-    }
-    if is_stray(m, check) {
-        return Refusal::STRAY;
-    }
-    let total = total_length(m, payload);
-    if layout::LONGEST < total {
-        return Refusal::TOO_LONG;
-    }
-    if room < total {
-        return Refusal::NO_ROOM;
-    }
-    0
-}
-
-// What `write` would answer with a buffer of `room` bytes.
-pub fn would_write(m: Message, payload: &[u8], check: &[u8], room: usize) -> Writing
-    ensures { λ r. ⌜ r ≡ writeOf m (now (payload .entry)) (now (check .entry)) room ⌝ }
-{
-    let by_value = value_refusal(m);
-    if by_value != 0 {
-        return Writing::Refused(Refusal { number: by_value });
-    }
-    let by_parts = parts_refusal(m, payload, check, room);
-    if by_parts != 0 {
-        return Writing::Refused(Refusal { number: by_parts });
-    }
-    Writing::Written(total_length(m, payload))
-}
-
+// A bit where a flag is set, else 0.
 fn only16(on: bool, n: u16) -> u16
     ensures { λ r. ⌜ (r ≡ only on n) × (r ≤ n) ⌝ }
 {
@@ -140,6 +26,7 @@ fn only8(on: bool, n: u8) -> u8
     if on { n } else { 0 }
 }
 
+// The header of a value.
 fn header_of(m: Message) -> u16
     requires { ⌜ (m .version ≤ 2) × (m .encrypt ≤ 1) ⌝ }
     ensures { λ r. ⌜ r ≡ headerOf m ⌝ }
@@ -151,6 +38,7 @@ fn header_of(m: Message) -> u16
         + m.encrypt as u16 * layout::ENCRYPT
 }
 
+// The exchange header of a value.
 fn exchange_header_of(m: Message) -> u8
     ensures { λ r. ⌜ r ≡ exchangeHeaderOf m ⌝ }
 {
@@ -201,7 +89,7 @@ fn store_head(out: &mut [u8], m: Message) -> usize
 pub fn write(m: Message, payload: &[u8], check: &[u8], out: &mut [u8]) -> Writing
     ensures { λ r. ⌜ (r ≡ writeOf m (now (payload .entry)) (now (check .entry)) (length (now (out .entry)))) × (now (out .exit) ≡ bufferAfter r (bytesOf m (now (payload .entry)) (now (check .entry))) (now (out .entry))) ⌝ }
 {
-    let answer = would_write(m, payload, check, out.len());
+    let answer = judging::would_write(m, payload, check, out.len());
     match answer {
         Writing::Written(n) => {
             let a = store_head(out, m);

@@ -2,8 +2,8 @@
 use mathlib.Core.Path.{ap, _∙_}
 use Rattle.wire.proofs.Fronts.{first-byte}
 use borrow.Author.Needs.{needs}
-use Rattle.writer.proofs.writing.wrong_packet.Statement.{statement}
-use Rattle.writer.proofs.writing.wrong_packet.Tie as tie
+use Rattle.writer.proofs.judging.wrong_packet.Statement.{statement}
+use Rattle.writer.proofs.judging.wrong_packet.Tie as tie
 
 returns : tie.Need-returns
 returns c = simp (c .before .bad-packet .ensures, c .before .before .get8 .ensures ∙ first-byte _)

@@ -1,8 +1,8 @@
 -- Each part of the condition by its own contract. Assumes nothing.
 use Rattle.message.specs.Refusals.{stray}
 use borrow.Author.Needs.{needs}
-use Rattle.writer.proofs.writing.is_stray.Statement.{statement}
-use Rattle.writer.proofs.writing.is_stray.Tie as tie
+use Rattle.writer.proofs.judging.is_stray.Statement.{statement}
+use Rattle.writer.proofs.judging.is_stray.Tie as tie
 
 returns : tie.Need-returns
 unfolding stray

@@ -1,8 +1,8 @@
 -- The sum of its parts, by their contracts. Assumes nothing.
 use Rattle.message.specs.Refusals.{total}
 use borrow.Author.Needs.{needs}
-use Rattle.writer.proofs.writing.total_length.Statement.{statement}
-use Rattle.writer.proofs.writing.total_length.Tie as tie
+use Rattle.writer.proofs.judging.total_length.Statement.{statement}
+use Rattle.writer.proofs.judging.total_length.Tie as tie
 
 returns : tie.Need-returns
 unfolding total

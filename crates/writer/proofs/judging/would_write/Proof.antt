@@ -6,8 +6,8 @@ use Rattle.message.specs.Answers.{refusal}
 use Rattle.message.specs.declared.answers.Writing.the-variants.{Written, Refused}
 use Rattle.writer.proofs.Writings.{would-value, would-parts, would-write}
 use borrow.Author.Needs.{needs}
-use Rattle.writer.proofs.writing.would_write.Statement.{statement}
-use Rattle.writer.proofs.writing.would_write.Tie as tie
+use Rattle.writer.proofs.judging.would_write.Statement.{statement}
+use Rattle.writer.proofs.judging.would_write.Tie as tie
 
 returns : tie.Need-returns
 returns c =

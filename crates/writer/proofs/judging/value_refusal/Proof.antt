@@ -4,8 +4,8 @@ use Rattle.message.proofs.Logic.{so}
 use Rattle.writer.specs.Steps.{valueOrder}
 use Rattle.writer.proofs.Steps.{value-hit, value-pass}
 use borrow.Author.Needs.{needs}
-use Rattle.writer.proofs.writing.value_refusal.Statement.{statement}
-use Rattle.writer.proofs.writing.value_refusal.Tie as tie
+use Rattle.writer.proofs.judging.value_refusal.Statement.{statement}
+use Rattle.writer.proofs.judging.value_refusal.Tie as tie
 
 returns : tie.Need-returns
 unfolding valueOrder

@@ -3,8 +3,8 @@ use borrow.Author.Tests.{lt-ltb, le-ltb}
 use Rattle.message.proofs.Logic.{so}
 use Rattle.writer.specs.Steps.{partsOrder}
 use borrow.Author.Needs.{needs}
-use Rattle.writer.proofs.writing.parts_refusal.Statement.{statement}
-use Rattle.writer.proofs.writing.parts_refusal.Tie as tie
+use Rattle.writer.proofs.judging.parts_refusal.Statement.{statement}
+use Rattle.writer.proofs.judging.parts_refusal.Tie as tie
 
 returns : tie.Need-returns
 unfolding partsOrder
