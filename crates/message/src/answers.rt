@@ -35,8 +35,22 @@ impl Refusal {
     pub const PACKET: u8 = 13;
     // Writing: an absent field is not zero, or the check bytes are not as many as they must be.
     pub const STRAY: u8 = 14;
+    // The own node is all zero or all ones.
+    pub const OWN_NODE: u8 = 15;
+    // The destination is neither the own node nor Any.
+    pub const NOT_OURS: u8 = 16;
+    // No source in the message, and the link's node is all zero or all ones.
+    pub const SENDER: u8 = 17;
+    // Encrypted, and the check did not pass.
+    pub const CHECK: u8 = 18;
     // The output buffer is too small.
     pub const NO_ROOM: u8 = 19;
+    // The name has no row, and all rows are in use.
+    pub const FULL: u8 = 20;
+    // The name to be removed has no row.
+    pub const NO_ROW: u8 = 21;
+    // The acknowledgement cannot be written, for a reason other than its room.
+    pub const UNWRITABLE: u8 = 22;
 }
 
 // Of reading: the value, or the refusal.

@@ -1,0 +1,65 @@
+-- Where a message has its row, and what it does there: by the row found, or by none. Assumes nothing.
+use Prim.Native.Nat.{ℕ, _≤_, _<_}
+use mathlib.Core.Path.{_≡_, sym, ap, _∙_, subst}
+use mathlib.Core.Bool.{Bool, cond}
+use mathlib.Core.List.{List}
+use borrow.Author.Tests.{lt-ltb, le-ltb}
+use Rattle.window.specs.Rows.{opened, rolledOf}
+use Rattle.window.specs.declared.Row.{Row}
+use Rattle.window.specs.declared.Rolled.{Rolled}
+use Rattle.message.specs.Answers.{refusal}
+use Rattle.reception.specs.declared.answers.Removed.the-variants.{Done, Refused}
+use Rattle.window.specs.declared.Verdict.the-variants.{New}
+use Rattle.reception.specs.Table.{rows, freed, rowOf, withRow, rowAt, putAt, findOf, freeOf}
+use Rattle.reception.specs.Receiving.{placeOf, rolledIn}
+use Rattle.reception.specs.Removing.{removeOf, removeTable}
+use Rattle.reception.proofs.Words.{row-within, put-within}
+
+module _ (t : List ℕ) (node key id : ℕ) where
+  -- the row found is rolled
+  pub found : findOf rows t node key < rows → (placeOf t node key ≡ findOf rows t node key) × (rolledIn t node key id ≡ rolledOf (rowOf t (findOf rows t node key)) id)
+  unfolding placeOf rolledIn
+  found l =
+      let e = lt-ltb (findOf rows t node key) rows l in (
+        ap (λ (b : Bool). cond b (findOf rows t node key) (freeOf rows t)) e,
+        ap (λ (b : Bool). cond b (rolledOf (rowOf t (findOf rows t node key)) id) (record { verdict = New; row = opened node key id })) e,
+      )
+
+  -- where there is none, one is opened at the lowest free number
+  pub opens : rows ≤ findOf rows t node key → (placeOf t node key ≡ freeOf rows t) × (rolledIn t node key id ≡ record { verdict = New; row = opened node key id })
+  unfolding placeOf rolledIn
+  opens l =
+      let e = le-ltb (findOf rows t node key) rows l in (
+        ap (λ (b : Bool). cond b (findOf rows t node key) (freeOf rows t)) e,
+        ap (λ (b : Bool). cond b (rolledOf (rowOf t (findOf rows t node key)) id) (record { verdict = New; row = opened node key id })) e,
+      )
+
+  -- as the code goes: the row at the number i that was found is rolled
+  pub rolls : (i : ℕ) (row : Row) (rolled : Rolled) → i ≡ findOf rows t node key → i < rows → row ≡ rowAt t i → rolled ≡ rolledOf row id
+      → (i ≡ placeOf t node key) × (rolled ≡ rolledIn t node key id)
+  rolls i row rolled e l r q =
+      let f = found (subst (λ (k : ℕ). k < rows) e l) in
+      (e ∙ sym (f .0), q ∙ ap (λ (x : Row). rolledOf x id) (r ∙ row-within t i l ∙ ap (rowOf t) e) ∙ sym (f .1))
+
+  -- or, at the free number i, one is opened
+  pub opens-at : (i f : ℕ) (row : Row) → i ≡ findOf rows t node key → rows ≤ i → f ≡ freeOf rows t → row ≡ opened node key id
+      → (f ≡ placeOf t node key) × (record { verdict = New; row = row } ≡ rolledIn t node key id)
+  opens-at i f row e l g r =
+      let o = opens (subst (λ (k : ℕ). rows ≤ k) e l) in
+      (g ∙ sym (o .0), ap (λ (x : Row). record { verdict = New; row = x }) r ∙ sym (o .1))
+
+module _ (t : List ℕ) (node key i : ℕ) (e : i ≡ findOf rows t node key) where
+  -- removing where there is a row, and where there is none
+  pub removes : (after : List ℕ) → i < rows → after ≡ putAt t i freed → (Done ≡ removeOf t node key) × (after ≡ removeTable t node key)
+  unfolding removeOf removeTable
+  removes after l p =
+      let h = lt-ltb (findOf rows t node key) rows (subst (λ (k : ℕ). k < rows) e l) in (
+        sym (ap (λ (b : Bool). cond b Done (Refused (refusal 21))) h),
+        p ∙ put-within t i freed l ∙ ap (λ (k : ℕ). withRow t k freed) e ∙ sym (ap (λ (b : Bool). cond b (withRow t (findOf rows t node key) freed) t) h),
+      )
+
+  pub removes-none : rows ≤ i → (Refused (refusal 21) ≡ removeOf t node key) × (t ≡ removeTable t node key)
+  unfolding removeOf removeTable
+  removes-none l =
+      let h = le-ltb (findOf rows t node key) rows (subst (λ (k : ℕ). rows ≤ k) e l) in
+      (sym (ap (λ (b : Bool). cond b Done (Refused (refusal 21))) h), sym (ap (λ (b : Bool). cond b (withRow t (findOf rows t node key) freed) t) h))

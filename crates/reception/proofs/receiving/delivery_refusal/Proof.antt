@@ -1,0 +1,34 @@
+-- Each answer stands at the first condition that holds. Assumes nothing.
+use Rattle.message.proofs.Logic.{so}
+use Rattle.reception.specs.Receiving.{deliveryOrder}
+use borrow.Author.Needs.{needs}
+use Rattle.reception.proofs.receiving.delivery_refusal.Statement.{statement}
+use Rattle.reception.proofs.receiving.delivery_refusal.Tie as tie
+
+returns : tie.Need-returns
+unfolding deliveryOrder
+returns c = simp (so (c .before .not-ours .ensures) (c .if1 .taken))
+
+returns-2 : tie.Need-returns-2
+unfolding deliveryOrder
+returns-2 c = simp (so (c .before .before .before .not-ours .ensures) (c .before .before .if1 .left), so (c .before .bad-link .ensures) (c .if2 .taken))
+
+returns-3 : tie.Need-returns-3
+unfolding deliveryOrder
+returns-3 c = simp (so (c .before .before .before .before .before .not-ours .ensures) (c .before .before .before .before .if1 .left), so (c .before .before .before .bad-link .ensures) (c .before .before .if2 .left), so (c .before .unchecked .ensures) (c .if3 .taken))
+
+returns-4 : tie.Need-returns-4
+unfolding deliveryOrder
+returns-4 c = simp (so (c .before .before .before .before .before .not-ours .ensures) (c .before .before .before .before .if1 .left), so (c .before .before .before .bad-link .ensures) (c .before .before .if2 .left), so (c .before .unchecked .ensures) (c .if3 .left))
+
+pub delivery-refusal-spec : {M : Type 1} → statement M
+delivery-refusal-spec =
+    tie.close
+    (tie.spec
+    (λ c κs. search needs)
+    returns
+    (λ c κs. search needs)
+    returns-2
+    (λ c κs. search needs)
+    returns-3
+    returns-4)

@@ -1,0 +1,37 @@
+-- The fields are read where the definition has them, and past the last row it has zeros. Assumes nothing.
+use mathlib.Core.Path.{sym}
+use borrow.Author.Needs.{needs}
+use borrow.Author.Tests.{le-ltb}
+use Rattle.reception.specs.Table.{rowOf, rowAt}
+use Rattle.reception.proofs.Words.{row-within}
+use Rattle.reception.proofs.table.row_at.Statement.{statement}
+use Rattle.reception.proofs.table.row_at.Tie as tie
+
+returns : tie.Need-returns
+unfolding rowAt
+returns c = simp (le-ltb _ _ (c .if1 .taken))
+
+returns-2 : tie.Need-returns-2
+unfolding rowOf
+returns-2 c = sym (row-within _ _ (c .before .before .before .if1 .left))
+
+pub row-at-spec : {M : Type 1} → statement M
+row-at-spec =
+    tie.close
+    (tie.spec
+    returns
+    (λ c. search needs)
+    (λ c. search needs)
+    (λ c. search needs)
+    (λ c. search needs)
+    (λ c. search needs)
+    (λ c. search needs)
+    (λ c. search needs)
+    (λ c. search needs)
+    (λ c. search needs)
+    (λ c. search needs)
+    (λ c. search needs)
+    (λ c. search needs)
+    (λ c. search needs)
+    (λ c. search needs)
+    returns-2)

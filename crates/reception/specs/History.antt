@@ -1,0 +1,148 @@
+-- The history of a table: messages received and rows removed, and the positions that the rule finds new under each name. The book below
+-- is built from the history alone: it knows nothing of rows, marks or shifting. Assumes nothing.
+use Prim.Native.Nat.{ℕ, zero, suc, _+_, _-_}
+use mathlib.Core.Bool.{Bool, true, false, _&&_, cond}
+use mathlib.Core.List.{List, [], _∷_, map}
+use lib.Dec.{eqb, leb}
+use lib.ListN.{length}
+use Rattle.message.specs.Order.{first}
+use Rattle.message.specs.Value.{messageOf}
+use Rattle.message.specs.Answers.{refusal}
+use Rattle.window.specs.Rule.{placeOf, accepts}
+use Rattle.window.specs.Rows.{marksHeld, behindOf, listOf}
+use Rattle.window.specs.History.{verdictOf}
+use Rattle.window.specs.declared.Row.{Row}
+use Rattle.reception.specs.declared.answers.Received.{Received}
+use Rattle.reception.specs.declared.answers.Received.the-variants as Received
+use Rattle.reception.specs.declared.answers.Removed.{Removed}
+use Rattle.reception.specs.declared.answers.Removed.the-variants as Removed
+use Rattle.reception.specs.Table.{rows, rowOf, named}
+use Rattle.reception.specs.Acknowledgement.{zeros}
+use Rattle.reception.specs.Receiving.{Beside, senderOf, answerTo, receivingOrder, answerOf, receiveOf, receiveTable}
+use Rattle.reception.specs.Removing.{removeOf, removeTable}
+
+-- a step: a message arrives, with all that comes with it, or a name is removed
+pub data Step : Type 0 where
+  arrives : Beside → List ℕ → Step
+  leaves : ℕ → ℕ → Step
+
+-- its answer
+pub data Answer : Type 0 where
+  ofArrival : Received → Answer
+  ofLeaving : Removed → Answer
+
+-- ---- by the table
+
+abbrev pub answerAt : List ℕ → Step → Answer
+answerAt t (arrives b bytes) = ofArrival (receiveOf b bytes t)
+answerAt t (leaves node key) = ofLeaving (removeOf t node key)
+
+abbrev pub tableAt : List ℕ → Step → List ℕ
+tableAt t (arrives b bytes) = receiveTable b bytes t
+tableAt t (leaves node key) = removeTable t node key
+
+unfoldable pub answersOf : List ℕ → List Step → List Answer
+answersOf t [] = []
+answersOf t (s ∷ steps) = answerAt t s ∷ answersOf (tableAt t s) steps
+
+unfoldable pub tableOf : List ℕ → List Step → List ℕ
+tableOf t [] = t
+tableOf t (s ∷ steps) = tableOf (tableAt t s) steps
+
+-- the empty table
+abbrev pub emptyTable : List ℕ
+emptyTable = zeros 96
+
+-- ---- by the book
+
+-- the full lists of positions, under each name those that are open, and how many are open in all. From the empty table on a name has one
+-- or none; in a table handed in a name may stand twice, and then the first counts
+pub record Book : Type 0 where
+  pub lists : ℕ → ℕ → List (List ℕ)
+  pub count : ℕ
+
+abbrev pub emptyBook : Book
+emptyBook = record { lists = λ node key. []; count = 0 }
+
+-- is an arriving id new? A first one is
+abbrev pub isNew : ℕ → List (List ℕ) → ℕ → Bool
+isNew key [] id = true
+isNew key (ps ∷ rest) id = accepts (behindOf key) marksHeld ps id
+
+-- a new id joins the list, or begins one
+abbrev pub joined : ℕ → List (List ℕ) → ℕ → List (List ℕ)
+joined key [] id = (placeOf (behindOf key) [] id ∷ []) ∷ []
+joined key (ps ∷ rest) id = (placeOf (behindOf key) ps id ∷ ps) ∷ rest
+
+-- how many are open then
+abbrev pub oneMore : List (List ℕ) → ℕ → ℕ
+oneMore [] n = n + 1
+oneMore (ps ∷ rest) n = n
+
+-- 20: nothing is open under the name, and as many lists are open as there are rows
+abbrev pub fullFor : List (List ℕ) → ℕ → Bool
+fullFor [] n = leb rows n
+fullFor (ps ∷ rest) n = false
+
+-- 21: nothing is open under the name
+abbrev pub removedBy : List (List ℕ) → Removed
+removedBy [] = Removed.Refused (refusal 21)
+removedBy (ps ∷ rest) = Removed.Done
+
+-- the lists of one name replaced: every other name keeps its own
+unfoldable pub under : (ℕ → ℕ → List (List ℕ)) → ℕ → ℕ → List (List ℕ) → ℕ → ℕ → List (List ℕ)
+under lists node key those n k = cond (eqb n node && eqb k key) those (lists n k)
+
+-- the answer to a message, in the order of receiving, by the full list of its name
+unfoldable pub receiveBy : Book → Beside → List ℕ → Received
+receiveBy book b bytes =
+    let m = messageOf bytes in
+    let those = book .lists (senderOf (b .link) m) (m .key) in
+    answerOf (first (receivingOrder b bytes (fullFor those (book .count)))) (verdictOf (isNew (m .key) those (m .id))) (answerTo b m) m
+
+abbrev pub answerBy : Book → Step → Answer
+answerBy book (arrives b bytes) = ofArrival (receiveBy book b bytes)
+answerBy book (leaves node key) = ofLeaving (removedBy (book .lists node key))
+
+-- only a new message joins a list
+abbrev pub bookAfter : Received → ℕ → ℕ → ℕ → Book → Book
+bookAfter (Received.New m len) node key id book =
+    record { lists = under (book .lists) node key (joined key (book .lists node key) id); count = oneMore (book .lists node key) (book .count) }
+bookAfter (Received.Duplicate m len) node key id book = book
+bookAfter (Received.Refused r) node key id book = book
+
+-- a removal ends the first list of the name
+abbrev pub bookWithout : List (List ℕ) → ℕ → ℕ → Book → Book
+bookWithout [] node key book = book
+bookWithout (ps ∷ rest) node key book = record { lists = under (book .lists) node key rest; count = book .count - 1 }
+
+unfoldable pub bookAt : Book → Step → Book
+bookAt book (arrives b bytes) =
+    bookAfter (receiveBy book b bytes) (senderOf (b .link) (messageOf bytes)) (messageOf bytes .key) (messageOf bytes .id) book
+bookAt book (leaves node key) = bookWithout (book .lists node key) node key book
+
+unfoldable pub answersBy : Book → List Step → List Answer
+answersBy book [] = []
+answersBy book (s ∷ steps) = answerBy book s ∷ answersBy (bookAt book s) steps
+
+unfoldable pub bookOf : Book → List Step → Book
+bookOf book [] = book
+bookOf book (s ∷ steps) = bookOf (bookAt book s) steps
+
+-- ---- the book of a table handed in
+
+-- of the rows f 0 to f (n - 1) those of which p holds, in their order
+unfoldable pub kept : ℕ → (Row → Bool) → (ℕ → Row) → List Row
+kept zero p f = []
+kept (suc n) p f = cond (p (f 0)) (f 0 ∷ kept n p (λ k. f (suc k))) (kept n p (λ k. f (suc k)))
+
+abbrev pub inUse : Row → Bool
+inUse row = row .used
+
+-- each row's own list: its highest id and its marks
+unfoldable pub handedIn : List ℕ → Book
+handedIn t =
+    record {
+      lists = λ node key. map (listOf marksHeld) (kept rows (named node key) (rowOf t));
+      count = length (kept rows inUse (rowOf t));
+    }

@@ -1,0 +1,17 @@
+// Reception: the table of rows, receiving a message, removing a row. It stands above the format and
+// the window, and goes by their contracts alone.
+mod acknowledgement;
+mod answers;
+mod receiving;
+mod removing;
+mod search;
+mod table;
+
+pub use answers::Received;
+pub use answers::Removed;
+pub use receiving::receive;
+pub use removing::remove;
+pub use table::ROWS;
+pub use table::WORDS;
+pub use table::put_row;
+pub use table::row_at;

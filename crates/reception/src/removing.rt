@@ -1,0 +1,35 @@
+// Removing a row.
+ghost use mathlib.Core.Path.{_≡_};
+ghost use Rattle.reception.specs.Removing.{removeOf, removeTable};
+use crate::answers::Removed;
+use crate::search;
+use crate::table;
+use crate::table::ROWS;
+use crate::table::WORDS;
+use message::Refusal;
+use window::Row;
+
+// Frees the row of a name: all its words are zero. Or the refusal, and nothing changes.
+pub fn remove(table: &mut [u64; WORDS], node: u64, key: u16) -> Removed
+    ensures result { λ r. ⌜ r ≡ removeOf (now (table .entry)) node key ⌝ }
+    ensures table { λ r. ⌜ now (table .exit) ≡ removeTable (now (table .entry)) node key ⌝ }
+{
+    let found = search::find(table, node, key);
+    if ROWS <= found {
+        return Removed::Refused(Refusal {
+            number: Refusal::NO_ROW,
+        });
+    }
+    table::put_row(
+        table,
+        found,
+        Row {
+            used: false,
+            node: 0,
+            key: 0,
+            highest: 0,
+            marks: 0,
+        },
+    );
+    Removed::Done
+}
