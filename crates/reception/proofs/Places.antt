@@ -1,18 +1,23 @@
 -- Where a message has its row, and what it does there: by the row found, or by none. Assumes nothing.
 use Prim.Native.Nat.{ℕ, _≤_, _<_}
 use mathlib.Core.Path.{_≡_, sym, ap, _∙_, subst}
-use mathlib.Core.Bool.{Bool, cond}
+use mathlib.Core.Bool.{Bool, true, false, not, cond}
 use mathlib.Core.List.{List}
-use borrow.Author.Tests.{lt-ltb, le-ltb}
+use native.Mathlib.Omega.{arith}
+use native.Mathlib.Decide.{decLt}
+use borrow.Author.Tests.{lt-ltb, le-ltb, le-leb, lt-leb, leb-true, not-false}
+use lib.Dec.{leb}
+use Rattle.message.proofs.Logic.{clash}
 use Rattle.window.specs.Rows.{opened, rolledOf}
 use Rattle.window.specs.declared.Row.{Row}
 use Rattle.window.specs.declared.Rolled.{Rolled}
 use Rattle.message.specs.Answers.{refusal}
 use Rattle.reception.specs.declared.answers.Removed.the-variants.{Done, Refused}
 use Rattle.window.specs.declared.Verdict.the-variants.{New}
-use Rattle.reception.specs.Table.{rows, freed, rowOf, withRow, rowAt, putAt, findOf, freeOf}
-use Rattle.reception.specs.Receiving.{placeOf, rolledIn}
+use Rattle.reception.specs.Table.{rows, freed, rowOf, withRow, rowAt, putAt, named, isFree, findOf, freeOf}
+use Rattle.reception.specs.Receiving.{placeOf, rolledIn, noRow}
 use Rattle.reception.specs.Removing.{removeOf, removeTable}
+use Rattle.reception.proofs.Least.{first-misses, first-none}
 use Rattle.reception.proofs.Words.{row-within, put-within}
 
 module _ (t : List ℕ) (node key id : ℕ) where
@@ -63,3 +68,23 @@ module _ (t : List ℕ) (node key i : ℕ) (e : i ≡ findOf rows t node key) wh
   removes-none l =
       let h = le-ltb (findOf rows t node key) rows (subst (λ (k : ℕ). rows ≤ k) e l) in
       (sym (ap (λ (b : Bool). cond b Done (Refused (refusal 21))) h), sym (ap (λ (b : Bool). cond b (withRow t (findOf rows t node key) freed) t) h))
+
+-- 20 is said exactly when the name has no row and all rows are in use
+module _ (t : List ℕ) (node key : ℕ) where
+  pub full-says : noRow t node key ≡ true → (k : ℕ) → k < rows → (named node key (rowOf t k) ≡ false) × (rowOf t k .used ≡ true)
+  unfolding findOf freeOf
+  full-says e k lk = go (decLt (findOf rows t node key) rows)
+    where
+      go : Dec (findOf rows t node key < rows) → (named node key (rowOf t k) ≡ false) × (rowOf t k .used ≡ true)
+      go (yes l) = clash (noRow t node key) e (ap (leb rows) (found t node key 0 l .0) ∙ lt-leb rows (findOf rows t node key) l)
+      go (no n) =
+          let l : rows ≤ findOf rows t node key = omega arith in
+          let free : rows ≤ freeOf rows t = subst (λ (i : ℕ). rows ≤ i) (opens t node key 0 l .0) (leb-true rows (placeOf t node key) e) in
+          (first-misses rows (λ i. named node key (rowOf t i)) k (omega (arith, l)), not-false _ (first-misses rows (λ i. isFree (rowOf t i)) k (omega (arith, free))))
+
+  pub full-when : ((k : ℕ) → k < rows → (named node key (rowOf t k) ≡ false) × (rowOf t k .used ≡ true)) → noRow t node key ≡ true
+  unfolding findOf freeOf
+  full-when h =
+      let f : findOf rows t node key ≡ rows = first-none rows (λ i. named node key (rowOf t i)) (λ k l. h k l .0) in
+      let g : freeOf rows t ≡ rows = first-none rows (λ i. isFree (rowOf t i)) (λ k l. ap not (h k l .1)) in
+      le-leb rows (placeOf t node key) (omega (arith, g, opens t node key 0 (omega (arith, f)) .0))

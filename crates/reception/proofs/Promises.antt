@@ -2,13 +2,18 @@
 
 -- A row that was put is read back, and every other row and word is as it was.
 pub use Rattle.reception.proofs.Words.{same-row, other-row, other-word, length-put}
+-- 20 is said exactly when the name has no row and all rows are in use.
+pub use Rattle.reception.proofs.Places.{full-says, full-when}
+-- Only one outcome fits `receive`, and one `remove`.
+pub use Rattle.reception.proofs.Outcomes.{one-receipt, one-removal}
 use Prim.Native.Nat.{ℕ, _+_, _<_, _*_}
-use mathlib.Core.Path.{_≡_, refl, sym, ap, subst}
+use mathlib.Core.Path.{_≡_, refl, sym, ap, ap₂, subst}
 use mathlib.Core.Logic.{_⊎_, ⊎-elim}
 use mathlib.Core.Bool.{Bool, true, false, _&&_, cond}
 use mathlib.Core.List.{List, [], _∷_, _++_}
 use native.Mathlib.Omega.{arith}
 use native.Mathlib.Decide.{decLt}
+use borrow.Author.Tests.{eq-eqb}
 use lib.Dec.{eqb, ltb}
 use lib.ListN.{length, getD, drop}
 use Rattle.message.specs.Order.{first}
@@ -87,61 +92,98 @@ module _ {t : List ℕ} {book : Book} (told : Told t book) (node key : ℕ) wher
 
 -- ---- no position twice
 
+-- a new verdict is an accepted id
+is-accepted : (b : Bool) → verdictOf b ≡ New → b ≡ true
+is-accepted true e = refl
+is-accepted false e = let z : _≡_ {A = ℕ} 0 1 = cc in let w : ⊥ = omega arith in absurd w
+
+-- what a list keeps where a new id joins it, and the others where one ends, the lists of every name keep over a history
+module _ (P : List (List ℕ) → Type 0)
+    (joins : (key : ℕ) (those : List (List ℕ)) (id : ℕ) → P those → isNew key those id ≡ true → P (joined key those id))
+    (ends : (ps : List ℕ) (pss : List (List ℕ)) → P (ps ∷ pss) → P pss)
+  where
+    replaced : (book : Book) (node key : ℕ) (those : List (List ℕ)) → ((n k : ℕ) → P (book .lists n k)) → P those → (n k : ℕ) → P (under (book .lists) node key those n k)
+    unfolding under
+    replaced book node key those d e n k = go (eqb n node && eqb k key)
+      where
+        go : (b : Bool) → P (cond b those (book .lists n k))
+        go true = e
+        go false = d n k
+
+    keeps : (book : Book) (s : Step) → ((n k : ℕ) → P (book .lists n k)) → (n k : ℕ) → P (bookAt book s .lists n k)
+    unfolding bookAt receiveBy answerOf
+    keeps book (leaves node key) d = go (book .lists node key) (d node key)
+      where
+        go : (those : List (List ℕ)) → P those → (n k : ℕ) → P (bookWithout those node key book .lists n k)
+        go [] e = d
+        go (ps ∷ pss) e = replaced book node key pss d (ends ps pss e)
+    keeps book (arrives b bytes) d = go (receiveBy book b bytes) refl
+      where
+        node : ℕ
+        node = senderOf (b .link) (messageOf bytes)
+
+        key : ℕ
+        key = messageOf bytes .key
+
+        id : ℕ
+        id = messageOf bytes .id
+
+        go : (a : Received) → receiveBy book b bytes ≡ a → (n k : ℕ) → P (bookAfter a node key id book .lists n k)
+        go (Received.New v len) e =
+            let w = is-new (first (receivingOrder b bytes (fullFor (book .lists node key) (book .count)))) (verdictOf (isNew key (book .lists node key) id)) (messageOf bytes) v (only (messageOf bytes .wants) (total (answerTo b (messageOf bytes)) [])) len e in
+            replaced book node key (joined key (book .lists node key) id) d (joins key (book .lists node key) id (d node key) (is-accepted _ (w .1)))
+        go (Received.Duplicate v len) e = d
+        go (Received.Refused r) e = d
+
+    along : (book : Book) (steps : List Step) → ((n k : ℕ) → P (book .lists n k)) → (n k : ℕ) → P (bookOf book steps .lists n k)
+    unfolding bookOf
+    along book [] d = d
+    along book (s ∷ steps) d = along (bookAt book s) steps (keeps book s d)
+
 -- no list holds a position twice
 abbrev pub AllDistinct : List (List ℕ) → Type 0
 AllDistinct [] = Unit {0}
 AllDistinct (ps ∷ pss) = Distinct ps × AllDistinct pss
 
-replaced : (book : Book) (node key : ℕ) (those : List (List ℕ)) → ((n k : ℕ) → AllDistinct (book .lists n k)) → AllDistinct those → (n k : ℕ) → AllDistinct (under (book .lists) node key those n k)
-unfolding under
-replaced book node key those d e n k = go (eqb n node && eqb k key)
-  where
-    go : (b : Bool) → AllDistinct (cond b those (book .lists n k))
-    go true = e
-    go false = d n k
-
-joins : (key : ℕ) (those : List (List ℕ)) (id : ℕ) → AllDistinct those → isNew key those id ≡ true → AllDistinct (joined key those id)
+distinct-joins : (key : ℕ) (those : List (List ℕ)) (id : ℕ) → AllDistinct those → isNew key those id ≡ true → AllDistinct (joined key those id)
 unfolding member
-joins key [] id d e = ((refl, tt), tt)
-joins key (ps ∷ pss) id d e = ((no-position-twice (behindOf key) marksHeld ps id e, d .0), d .1)
-
-is-accepted : (b : Bool) → verdictOf b ≡ New → b ≡ true
-is-accepted true e = refl
-is-accepted false e = let z : _≡_ {A = ℕ} 0 1 = cc in let w : ⊥ = omega arith in absurd w
-
-stays-distinct : (book : Book) (s : Step) → ((n k : ℕ) → AllDistinct (book .lists n k)) → (n k : ℕ) → AllDistinct (bookAt book s .lists n k)
-unfolding bookAt receiveBy answerOf
-stays-distinct book (leaves node key) d = go (book .lists node key) (d node key)
-  where
-    go : (those : List (List ℕ)) → AllDistinct those → (n k : ℕ) → AllDistinct (bookWithout those node key book .lists n k)
-    go [] e = d
-    go (ps ∷ pss) e = replaced book node key pss d (e .1)
-stays-distinct book (arrives b bytes) d = go (receiveBy book b bytes) refl
-  where
-    node : ℕ
-    node = senderOf (b .link) (messageOf bytes)
-
-    key : ℕ
-    key = messageOf bytes .key
-
-    id : ℕ
-    id = messageOf bytes .id
-
-    go : (a : Received) → receiveBy book b bytes ≡ a → (n k : ℕ) → AllDistinct (bookAfter a node key id book .lists n k)
-    go (Received.New v len) e =
-        let w = is-new (first (receivingOrder b bytes (fullFor (book .lists node key) (book .count)))) (verdictOf (isNew key (book .lists node key) id)) (messageOf bytes) v (only (messageOf bytes .wants) (total (answerTo b (messageOf bytes)) [])) len e in
-        replaced book node key (joined key (book .lists node key) id) d (joins key (book .lists node key) id (d node key) (is-accepted _ (w .1)))
-    go (Received.Duplicate v len) e = d
-    go (Received.Refused r) e = d
-
-distinct-along : (book : Book) (steps : List Step) → ((n k : ℕ) → AllDistinct (book .lists n k)) → (n k : ℕ) → AllDistinct (bookOf book steps .lists n k)
-unfolding bookOf
-distinct-along book [] d = d
-distinct-along book (s ∷ steps) d = distinct-along (bookAt book s) steps (stays-distinct book s d)
+distinct-joins key [] id d e = ((refl, tt), tt)
+distinct-joins key (ps ∷ pss) id d e = ((no-position-twice (behindOf key) marksHeld ps id e, d .0), d .1)
 
 -- Between its opening and its removal no position of a name is accepted twice.
 pub no-position-of-a-name-twice : (steps : List Step) (node key : ℕ) → AllDistinct (bookOf emptyBook steps .lists node key)
-no-position-of-a-name-twice steps = distinct-along emptyBook steps (λ n k. tt)
+no-position-of-a-name-twice steps = along AllDistinct distinct-joins (λ ps pss d. d .1) emptyBook steps (λ n k. tt)
+
+-- ---- one list or none
+
+abbrev pub AtMostOne : List (List ℕ) → Type 0
+AtMostOne [] = Unit {0}
+AtMostOne (ps ∷ []) = Unit {0}
+AtMostOne (ps ∷ qs ∷ rest) = ⊥
+
+one-joins : (key : ℕ) (those : List (List ℕ)) (id : ℕ) → AtMostOne those → isNew key those id ≡ true → AtMostOne (joined key those id)
+one-joins key [] id p e = tt
+one-joins key (ps ∷ []) id p e = tt
+one-joins key (ps ∷ qs ∷ rest) id p e = absurd p
+
+one-ends : (ps : List ℕ) (pss : List (List ℕ)) → AtMostOne (ps ∷ pss) → AtMostOne pss
+one-ends ps [] p = tt
+one-ends ps (qs ∷ rest) p = absurd p
+
+-- From the empty table on a name has one list or none.
+pub one-list-or-none : (steps : List Step) (node key : ℕ) → AtMostOne (bookOf emptyBook steps .lists node key)
+one-list-or-none steps = along AtMostOne one-joins one-ends emptyBook steps (λ n k. tt)
+
+-- A name that was removed has none.
+pub removed-has-no-list : (steps : List Step) (node key : ℕ) → bookAt (bookOf emptyBook steps) (leaves node key) .lists node key ≡ []
+unfolding bookAt under
+removed-has-no-list steps node key = go (bookOf emptyBook steps .lists node key) refl (one-list-or-none steps node key)
+  where
+    go : (those : List (List ℕ)) → bookOf emptyBook steps .lists node key ≡ those → AtMostOne those → bookWithout those node key (bookOf emptyBook steps) .lists node key ≡ []
+    go [] e p = e
+    go (ps ∷ []) e p =
+        ap₂ (λ (a b : Bool). cond (a && b) [] (bookOf emptyBook steps .lists node key)) (eq-eqb node node refl) (eq-eqb key key refl)
+    go (ps ∷ qs ∷ rest) e p = absurd p
 
 -- ---- what a call leaves as it was
 

@@ -12,7 +12,8 @@ use Rattle.message.specs.declared.value.Message.{Message}
 use Rattle.message.specs.declared.answers.Writing.{Writing}
 use Rattle.message.specs.declared.answers.Writing.the-variants.{Written, Refused}
 
--- its value, of the message m that it answers: version 2, general, from the own node to the sender, under the id given; encrypt type, key id and exchange id as received; I reversed, A and not R; type 2 of profile 0; the acknowledged id is the received one
+-- its value, of the message m that it answers: version 2, general, from the own node to the sender, under the id given; encrypt type, key
+-- id and exchange id as received; I reversed, A and not R; type 2 of profile 0; the acknowledged id is the received one
 unfoldable pub acknowledgementOf : ℕ → ℕ → ℕ → Message → Message
 acknowledgementOf own sender id m =
     record {
@@ -65,11 +66,12 @@ noRoom (Refused r) = eqb (r .number) 19
 abbrev pub reasonOf : ℕ → ℕ
 reasonOf number = cond (eqb number 19) 19 22
 
--- the same answer with the two reasons apart, and 0 bytes where none is wanted
+-- the same answer with the two reasons apart
 abbrev pub reasoned : Writing → Writing
 reasoned (Written n) = Written n
 reasoned (Refused r) = Refused (refusal (reasonOf (r .number)))
 
+-- what is known before anything is written: 0 bytes where none is wanted
 unfoldable pub plannedOf : Bool → Message → ℕ → Writing
 plannedOf wanted value room = cond wanted (reasoned (acknowledging value room)) (Written 0)
 

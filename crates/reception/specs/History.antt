@@ -33,18 +33,22 @@ pub data Answer : Type 0 where
 
 -- ---- by the table
 
+-- the answer to a step: what the contracts of `receive` and `remove` say
 abbrev pub answerAt : List ℕ → Step → Answer
 answerAt t (arrives b bytes) = ofArrival (receiveOf b bytes t)
 answerAt t (leaves node key) = ofLeaving (removeOf t node key)
 
+-- the table after a step, by the same contracts
 abbrev pub tableAt : List ℕ → Step → List ℕ
 tableAt t (arrives b bytes) = receiveTable b bytes t
 tableAt t (leaves node key) = removeTable t node key
 
+-- the answers to steps, one after the other
 unfoldable pub answersOf : List ℕ → List Step → List Answer
 answersOf t [] = []
 answersOf t (s ∷ steps) = answerAt t s ∷ answersOf (tableAt t s) steps
 
+-- the table after them
 unfoldable pub tableOf : List ℕ → List Step → List ℕ
 tableOf t [] = t
 tableOf t (s ∷ steps) = tableOf (tableAt t s) steps
@@ -61,6 +65,7 @@ pub record Book : Type 0 where
   pub lists : ℕ → ℕ → List (List ℕ)
   pub count : ℕ
 
+-- nothing is open
 abbrev pub emptyBook : Book
 emptyBook = record { lists = λ node key. []; count = 0 }
 
@@ -100,6 +105,7 @@ receiveBy book b bytes =
     let those = book .lists (senderOf (b .link) m) (m .key) in
     answerOf (first (receivingOrder b bytes (fullFor those (book .count)))) (verdictOf (isNew (m .key) those (m .id))) (answerTo b m) m
 
+-- the answer to a step
 abbrev pub answerBy : Book → Step → Answer
 answerBy book (arrives b bytes) = ofArrival (receiveBy book b bytes)
 answerBy book (leaves node key) = ofLeaving (removedBy (book .lists node key))
@@ -116,15 +122,18 @@ abbrev pub bookWithout : List (List ℕ) → ℕ → ℕ → Book → Book
 bookWithout [] node key book = book
 bookWithout (ps ∷ rest) node key book = record { lists = under (book .lists) node key rest; count = book .count - 1 }
 
+-- the book after a step
 unfoldable pub bookAt : Book → Step → Book
 bookAt book (arrives b bytes) =
     bookAfter (receiveBy book b bytes) (senderOf (b .link) (messageOf bytes)) (messageOf bytes .key) (messageOf bytes .id) book
 bookAt book (leaves node key) = bookWithout (book .lists node key) node key book
 
+-- the answers to steps, one after the other
 unfoldable pub answersBy : Book → List Step → List Answer
 answersBy book [] = []
 answersBy book (s ∷ steps) = answerBy book s ∷ answersBy (bookAt book s) steps
 
+-- the book after them
 unfoldable pub bookOf : Book → List Step → Book
 bookOf book [] = book
 bookOf book (s ∷ steps) = bookOf (bookAt book s) steps
@@ -136,6 +145,7 @@ unfoldable pub kept : ℕ → (Row → Bool) → (ℕ → Row) → List Row
 kept zero p f = []
 kept (suc n) p f = cond (p (f 0)) (f 0 ∷ kept n p (λ k. f (suc k))) (kept n p (λ k. f (suc k)))
 
+-- a row in use, under whatever name
 abbrev pub inUse : Row → Bool
 inUse row = row .used
 

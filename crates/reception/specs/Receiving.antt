@@ -29,6 +29,7 @@ pub record Beside : Type 0 where
   pub id : ℕ
   pub room : ℕ
 
+-- the same, put together from its parts
 abbrev pub beside : ℕ → ℕ → Bool → ℕ → ℕ → Beside
 beside own link passed id room = record { own = own; link = link; passed = passed; id = id; room = room }
 
@@ -86,6 +87,7 @@ answerTo b m = acknowledgementOf (b .own) (senderOf (b .link) m) (b .id) m
 unfoldable pub afterReading : Beside → Message → Bool → List Condition
 afterReading b m full = deliveryOrder (b .own) (b .link) (b .passed) m ++ admissionOrder (answerTo b m) (b .room) m full
 
+-- the whole order, of a message and whether there is no row to be had
 unfoldable pub receivingOrder : Beside → List ℕ → Bool → List Condition
 receivingOrder b bytes full = 15 when nobody (b .own) ∷ readingOrder bytes ++ afterReading b (messageOf bytes) full
 
@@ -105,6 +107,7 @@ answerOf number verdict value m = received number verdict m (only (m .wants) (to
 abbrev pub verdictIn : List ℕ → ℕ → Message → Verdict
 verdictIn t sender m = rolledIn t sender (m .key) (m .id) .verdict
 
+-- the answer to bytes, by the table
 unfoldable pub receiveOf : Beside → List ℕ → List ℕ → Received
 receiveOf b bytes t =
     let m = messageOf bytes in
@@ -117,9 +120,11 @@ tableAfter (Received.New m len) t place row = withRow t place row
 tableAfter (Received.Duplicate m len) t place row = t
 tableAfter (Received.Refused r) t place row = t
 
+-- the row is that of the name, after the message
 unfoldable pub tableBy : Received → ℕ → Message → List ℕ → List ℕ
 tableBy answer sender m t = tableAfter answer t (placeOf t sender (m .key)) (rolledIn t sender (m .key) (m .id) .row)
 
+-- the table after receiving
 unfoldable pub receiveTable : Beside → List ℕ → List ℕ → List ℕ
 receiveTable b bytes t = tableBy (receiveOf b bytes t) (senderOf (b .link) (messageOf bytes)) (messageOf bytes) t
 
@@ -129,8 +134,10 @@ bufferAfter (Received.New m len) bytes old = bytes ++ drop len old
 bufferAfter (Received.Duplicate m len) bytes old = bytes ++ drop len old
 bufferAfter (Received.Refused r) bytes old = old
 
+-- the bytes are those of the acknowledgement, if one is wanted
 unfoldable pub bufferBy : Received → Message → Message → List ℕ → List ℕ
 bufferBy answer value m old = bufferAfter answer (cond (m .wants) (acknowledgementBytes value) []) old
 
+-- the output buffer after receiving
 unfoldable pub receiveBuffer : Beside → List ℕ → List ℕ → List ℕ → List ℕ
 receiveBuffer b bytes t old = bufferBy (receiveOf b bytes t) (answerTo b (messageOf bytes)) (messageOf bytes) old

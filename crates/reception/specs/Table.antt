@@ -10,6 +10,7 @@ use Rattle.window.specs.declared.Row.{Row}
 abbrev pub rows : ℕ
 rows = 32
 
+-- a truth value as a bit
 abbrev pub bit : Bool → ℕ
 bit true = 1
 bit false = 0
@@ -51,6 +52,7 @@ firstBelow (suc n) p = cond (p 0) 0 (suc (firstBelow n (λ k. p (suc k))))
 abbrev pub named : ℕ → ℕ → Row → Bool
 named node key row = row .used && eqb (row .node) node && eqb (row .key) key
 
+-- a row that is not in use
 abbrev pub isFree : Row → Bool
 isFree row = not (row .used)
 
