@@ -1,0 +1,31 @@
+-- Lines of the listing, spelt out: those of the example, and the greatest number. Assumes nothing.
+use mathlib.Core.Path.{_≡_, refl}
+use mathlib.Core.List.{[], _∷_}
+use Rattle.lines.specs.Decimal.{placesWithin, placesOf, decimalText}
+use Rattle.lines.specs.Lines.{closing, lineText, lastText}
+use Rattle.lines.specs.declared.Said.the-variants.{New, Duplicate, Refused}
+
+-- `1 new 5`
+pub first-new : lineText 1 (New 5) ≡ 49 ∷ 32 ∷ 110 ∷ 101 ∷ 119 ∷ 32 ∷ 53 ∷ 10 ∷ []
+unfolding lineText closing decimalText placesOf placesWithin
+first-new = refl
+
+-- `2 duplicate 5`
+pub second-duplicate : lineText 2 (Duplicate 5) ≡ 50 ∷ 32 ∷ 100 ∷ 117 ∷ 112 ∷ 108 ∷ 105 ∷ 99 ∷ 97 ∷ 116 ∷ 101 ∷ 32 ∷ 53 ∷ 10 ∷ []
+unfolding lineText closing decimalText placesOf placesWithin
+second-duplicate = refl
+
+-- `3 refused 5`
+pub third-refused : lineText 3 (Refused 5) ≡ 51 ∷ 32 ∷ 114 ∷ 101 ∷ 102 ∷ 117 ∷ 115 ∷ 101 ∷ 100 ∷ 32 ∷ 53 ∷ 10 ∷ []
+unfolding lineText closing decimalText placesOf placesWithin
+third-refused = refl
+
+-- `end 0`
+pub end-none : lastText 0 ≡ 101 ∷ 110 ∷ 100 ∷ 32 ∷ 48 ∷ 10 ∷ []
+unfolding lastText closing decimalText placesOf placesWithin
+end-none = refl
+
+-- `end 18446744073709551615`
+pub greatest : lastText 18446744073709551615 ≡ 101 ∷ 110 ∷ 100 ∷ 32 ∷ 49 ∷ 56 ∷ 52 ∷ 52 ∷ 54 ∷ 55 ∷ 52 ∷ 52 ∷ 48 ∷ 55 ∷ 51 ∷ 55 ∷ 48 ∷ 57 ∷ 53 ∷ 53 ∷ 49 ∷ 54 ∷ 49 ∷ 53 ∷ 10 ∷ []
+unfolding lastText closing decimalText placesOf placesWithin
+greatest = refl

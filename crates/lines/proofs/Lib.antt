@@ -1,0 +1,5 @@
+-- The laws that belong to no one function.
+pub mod Decimals
+pub mod Texts
+pub mod Examples
+pub mod Outcomes

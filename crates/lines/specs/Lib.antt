@@ -1,0 +1,3 @@
+-- What the contracts of `lines` cite.
+pub mod Decimal
+pub mod Lines

@@ -1,0 +1,2 @@
+-- What the contracts of `listing` cite.
+pub mod Listing
