@@ -11,7 +11,7 @@ use Rattle.window.specs.declared.Row.{Row}
 use Rattle.window.proofs.History.{Stands, stands-own}
 use Rattle.window.proofs.Rows.{fits-gateway}
 use Rattle.reception.specs.Table.{rows, rowOf, named}
-use Rattle.reception.specs.Acknowledgement.{zeros}
+use Rattle.writer.specs.Acknowledgement.{zeros}
 use Rattle.reception.specs.History.{Book, Step, Answer, answersOf, tableOf, emptyTable, emptyBook, answersBy, bookOf, kept, inUse, handedIn}
 use Rattle.reception.proofs.Kept.{kept-none}
 use Rattle.reception.proofs.Told.{Stand, Told, named-node, named-not}

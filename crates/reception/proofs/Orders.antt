@@ -10,7 +10,7 @@ use lib.ListN.{length, drop}
 use Rattle.message.specs.Order.{Condition, _when_, first}
 use Rattle.message.specs.Layout.{only}
 use Rattle.message.specs.Value.{messageOf}
-use Rattle.message.specs.Refusals.{nobody, total}
+use Rattle.message.specs.Refusals.{nobody, badSource, total}
 use Rattle.message.specs.Answers.{refusal, reading}
 use Rattle.message.specs.Answers as written
 use Rattle.message.specs.declared.value.Message.{Message}
@@ -29,8 +29,10 @@ use Rattle.window.specs.declared.Verdict.the-variants.{New, Duplicate}
 use Rattle.reception.specs.declared.answers.Received.{Received}
 use Rattle.reception.specs.declared.answers.Received.the-variants as Received
 use Rattle.reception.specs.Table.{rows}
-use Rattle.reception.specs.Acknowledgement.{acknowledgementOf, acknowledgementBytes, acknowledging, acknowledged, blankCheck, unwritable, noRoom, reasoned, plannedOf}
-use Rattle.reception.specs.Receiving.{Beside, senderOf, placeOf, rolledIn, noRow, deliveryOrder, admissionOrder, answerTo, afterReading, receivingOrder, verdictIn, received, answerOf, receiveOf, tableAfter, tableBy, receiveTable, bufferAfter, bufferBy, receiveBuffer}
+use Rattle.writer.specs.Acknowledgement.{acknowledgementOf, acknowledgementBytes, acknowledging, blankCheck}
+use Rattle.reception.specs.Acknowledgement.{unwritable, noRoom, reasoned, plannedOf, answeredBy}
+use Rattle.reception.proofs.Planned.{differ, unwritten}
+use Rattle.reception.specs.Receiving.{admitOf, fullOf, deliverOf, badLink, Beside, senderOf, placeOf, rolledIn, noRow, deliveryOrder, admissionOrder, answerTo, afterReading, receivingOrder, verdictIn, received, answerOf, receiveOf, tableAfter, tableBy, receiveTable, bufferAfter, bufferBy, receiveBuffer}
 
 -- ---- a refusal
 
@@ -58,13 +60,10 @@ refuses-all number k value sender m t old answer h e a =
 
 -- ---- 22 and 19, then 20
 
-differ : {A : Type 0} {n : ℕ} {r : Refusal} → Writing.Written n ≡ Writing.Refused r → A
-differ e = let z : _≡_ {A = ℕ} 0 1 = cc in let w : ⊥ = omega arith in absurd w
-
 module _ (value : Message) (room sender : ℕ) (m : Message) (t : List ℕ) where
   -- a plan that is refused is the answer
   pub not-planned : (r : Refusal) → plannedOf (m .wants) value room ≡ Writing.Refused r
-      → Received.Refused r ≡ answerOf (first (admissionOrder value room m (noRow t sender (m .key)))) (verdictIn t sender m) value m
+      → Received.Refused r ≡ admitOf value room sender m t
   unfolding plannedOf admissionOrder answerOf
   not-planned r = go (m .wants) (acknowledging value room)
     where
@@ -131,12 +130,12 @@ module _ (value : Message) (sender : ℕ) (m : Message) (t old : List ℕ) (n : 
       (p .length))
 
   -- the acknowledgement stands at the front of the buffer
-  pub answered : (verdict : Verdict) → cond (m .wants) (acknowledged value old) old ≡ bufferBy (received 0 verdict m n) value m old
-  unfolding acknowledged bufferBy
+  pub answered : (verdict : Verdict) → answeredBy (m .wants) value old ≡ bufferBy (received 0 verdict m n) value m old
+  unfolding answeredBy bufferBy
   answered verdict = go verdict (m .wants) (p .length) (p .writes)
     where
       go : (v : Verdict) (w : Bool) → only w (total value []) ≡ n → (w ≡ true → acknowledging value (length old) ≡ Writing.Written n)
-          → cond w (acknowledged value old) old ≡ bufferAfter (received 0 v m n) (cond w (acknowledgementBytes value) []) old
+          → answeredBy w value old ≡ bufferAfter (received 0 v m n) (cond w (acknowledgementBytes value) []) old
       go New true h f = ap (λ (a : Writing). written.bufferAfter a (acknowledgementBytes value) old) (f refl)
       go Duplicate true h f = ap (λ (a : Writing). written.bufferAfter a (acknowledgementBytes value) old) (f refl)
       go New false h f = ap (λ (k : ℕ). drop k old) h
@@ -144,8 +143,8 @@ module _ (value : Message) (sender : ℕ) (m : Message) (t old : List ℕ) (n : 
 
   -- all three, of the row's place and the row rolled there
   pub settles : (place : ℕ) (rolled : Rolled) (answer : Received) (after buffer : List ℕ) → place ≡ placeOf t sender (m .key) → rolled ≡ rolledIn t sender (m .key) (m .id) → place < rows
-      → answer ≡ received 0 (rolled .verdict) m n → after ≡ tableAfter answer t place (rolled .row) → buffer ≡ cond (m .wants) (acknowledged value old) old
-      → (answer ≡ answerOf (first (admissionOrder value (length old) m (noRow t sender (m .key)))) (verdictIn t sender m) value m) × ((after ≡ tableBy answer sender m t) × (buffer ≡ bufferBy answer value m old))
+      → answer ≡ received 0 (rolled .verdict) m n → after ≡ tableAfter answer t place (rolled .row) → buffer ≡ answeredBy (m .wants) value old
+      → (answer ≡ admitOf value (length old) sender m t) × ((after ≡ tableBy answer sender m t) × (buffer ≡ bufferBy answer value m old))
   unfolding tableBy
   settles place rolled answer after buffer ep er l ea et eb =
       let a = ea ∙ ap (λ (x : Rolled). received 0 (x .verdict) m n) er in (
@@ -156,7 +155,35 @@ module _ (value : Message) (sender : ℕ) (m : Message) (t old : List ℕ) (n : 
         ),
       )
 
+-- ---- a message that is not let in
+
+module _ (value : Message) (sender : ℕ) (m : Message) (t old : List ℕ) (w : Writing) (answer : Received) where
+  -- its acknowledgement cannot be written, and the buffer is what that leaves
+  pub unanswered : (r : Refusal) (buffer : List ℕ) → w ≡ plannedOf (m .wants) value (length old) → w ≡ Writing.Refused r → buffer ≡ answeredBy (m .wants) value old → answer ≡ Received.Refused r
+      → (answer ≡ admitOf value (length old) sender m t) × ((t ≡ tableBy answer sender m t) × (buffer ≡ bufferBy answer value m old))
+  unanswered r buffer ew er eb ea =
+      let p = sym ew ∙ er in
+      (ea ∙ not-planned value (length old) sender m t r p, (keeps-table answer r sender m t ea, eb ∙ unwritten (m .wants) value old r p ∙ keeps-buffer answer r value m old ea))
+
+  -- all rows are in use
+  pub no-row : w ≡ plannedOf (m .wants) value (length old) → rows ≤ placeOf t sender (m .key) → answer ≡ fullOf w
+      → (answer ≡ admitOf value (length old) sender m t) × ((t ≡ tableBy answer sender m t) × (old ≡ bufferBy answer value m old))
+  no-row ew l = go w ew
+    where
+      go : (a : Writing) → a ≡ plannedOf (m .wants) value (length old) → answer ≡ fullOf a
+          → (answer ≡ admitOf value (length old) sender m t) × ((t ≡ tableBy answer sender m t) × (old ≡ bufferBy answer value m old))
+      go (Writing.Written n) e ea = refuses-all 20 _ value sender m t old answer (λ z. omega arith) (full value sender m t old n (is-planned value (length old) sender m t n (sym e)) l) ea
+      go (Writing.Refused r) e ea = (ea ∙ not-planned value (length old) sender m t r (sym e), (keeps-table answer r sender m t ea, keeps-buffer answer r value m old ea))
+
 -- ---- 16 to 18, and then
+
+-- a sender who is nobody is the link's, where the source of the message is somebody's or absent
+pub link-is-sender : (link sender : ℕ) (m : Message) → sender ≡ senderOf link m → badSource (m .sourced) (m .source) ≡ false → badLink link m ≡ nobody sender
+link-is-sender link sender m = go (m .sourced)
+  where
+    go : (s : Bool) → sender ≡ cond s (m .source) link → (s && nobody (m .source)) ≡ false → (not s && nobody link) ≡ nobody sender
+    go true e h = sym (ap nobody e ∙ h)
+    go false e h = sym (ap nobody e)
 
 delivery-numbered : (own link : ℕ) (passed : Bool) (m : Message) → numbered (deliveryOrder own link passed m) ≡ true
 unfolding deliveryOrder

@@ -1,49 +1,58 @@
--- What planning the acknowledgement says of the order of receiving: 22 and 19. Assumes nothing.
-use Prim.Native.Nat.{ℕ, zero, suc, _≤_}
-use mathlib.Core.Path.{_≡_, refl, ap, _∙_}
+-- What a message is answered with, by whether it wants an acknowledgement. Assumes nothing.
+use Prim.Native.Nat.{ℕ}
+use mathlib.Core.Path.{_≡_, refl, sym, ap, _∙_}
 use mathlib.Core.Bool.{Bool, true, false, cond}
-use mathlib.Core.List.{List, [], _∷_}
+use mathlib.Core.List.{List}
 use native.Mathlib.Omega.{arith}
-use lib.ListN.{length, take}
-use Rattle.message.specs.Layout.{checkLength}
-use Rattle.message.specs.Value.{bytesOf}
-use Rattle.message.specs.Answers.{bufferAfter}
+use borrow.Author.Tests.{eq-eqb, ne-eqb}
+use lib.ListN.{length}
+use Rattle.message.specs.Answers.{refusal, bufferAfter}
 use Rattle.message.specs.declared.value.Message.{Message}
+use Rattle.message.specs.declared.answers.Refusal.{Refusal}
 use Rattle.message.specs.declared.answers.Writing.{Writing}
-use Rattle.message.specs.declared.answers.Writing.the-variants.{Written}
-use Rattle.writer.specs.Writing.{writeOf}
-use Rattle.reception.specs.Acknowledgement.{zeros, blankCheck, acknowledgementBytes, acknowledging, reasoned, plannedOf, acknowledged}
+use Rattle.message.specs.declared.answers.Writing.the-variants.{Written, Refused}
+use Rattle.writer.specs.Acknowledgement.{acknowledgementBytes, acknowledging}
+use Rattle.reception.specs.Acknowledgement.{reasoned, plannedOf, answeredBy}
 
--- ---- the blank check bytes are the front of twenty zeros
+pub differ : {A : Type 0} {n : ℕ} {r : Refusal} → Written n ≡ Refused r → A
+differ e = let z : _≡_ {A = ℕ} 0 1 = cc in let w : ⊥ = omega arith in absurd w
 
-zeros-front : (n k : ℕ) → n ≤ k → take n (zeros k) ≡ zeros n
-zeros-front zero k l = refl
-zeros-front (suc n) zero l = let z : ⊥ = omega arith in absurd z
-zeros-front (suc n) (suc k) l = ap (λ (bs : List ℕ). 0 ∷ bs) (zeros-front n k (omega arith))
+-- the reason is want of room, or another
+module _ (w : Writing) (r : Refusal) (e : w ≡ Refused r) where
+  pub for-room : r .number ≡ 19 → Refused r ≡ reasoned w
+  for-room h =
+      sym (ap reasoned e ∙ ap (λ (k : ℕ). Refused (refusal k)) (ap (λ (b : Bool). cond b 19 22) (eq-eqb (r .number) 19 h) ∙ sym h))
 
-pub blank : (value : Message) (n : ℕ) → n ≡ checkLength value → n ≤ 20 → take n (zeros 20) ≡ blankCheck value
-blank value n e l = zeros-front n 20 l ∙ ap zeros e
+  pub for-another : (r .number ≡ 19 → ⊥) → Refused (refusal 22) ≡ reasoned w
+  for-another h = sym (ap reasoned e ∙ ap (λ (b : Bool). Refused (refusal (cond b 19 22))) (ne-eqb (r .number) 19 h))
 
--- writing with them is writing the acknowledgement
-pub writes : (value : Message) (room n : ℕ) → n ≡ checkLength value → n ≤ 20 → writeOf value [] (take n (zeros 20)) room ≡ acknowledging value room
-unfolding acknowledging
-writes value room n e l = ap (λ (check : List ℕ). writeOf value [] check room) (blank value n e l)
+module _ (wanted : Bool) (value : Message) where
+  -- the writer's answer w, with its reason
+  pub planned : (room : ℕ) (w : Writing) → wanted ≡ true → w ≡ acknowledging value room → reasoned w ≡ plannedOf wanted value room
+  unfolding plannedOf
+  planned room w t e = ap reasoned e ∙ ap (λ (b : Bool). cond b (reasoned (acknowledging value room)) (Written 0)) (sym t)
 
--- ---- the plan
+  pub unplanned : (room : ℕ) → wanted ≡ false → Written 0 ≡ plannedOf wanted value room
+  unfolding plannedOf
+  unplanned room t = ap (λ (b : Bool). cond b (reasoned (acknowledging value room)) (Written 0)) (sym t)
 
-pub planned : (wanted : Bool) (value : Message) (room : ℕ) (w : Writing) → wanted ≡ true → acknowledging value room ≡ w → plannedOf wanted value room ≡ reasoned w
-unfolding plannedOf
-planned wanted value room w t e = ap (λ (b : Bool). cond b (reasoned (acknowledging value room)) (Written 0)) t ∙ ap reasoned e
+  -- and what it leaves in the buffer
+  pub stored : (old : List ℕ) (w : Writing) → wanted ≡ true → w ≡ acknowledging value (length old) → bufferAfter w (acknowledgementBytes value) old ≡ answeredBy wanted value old
+  unfolding answeredBy
+  stored old w t e =
+      ap (λ (a : Writing). bufferAfter a (acknowledgementBytes value) old) e
+      ∙ ap (λ (b : Bool). cond b (bufferAfter (acknowledging value (length old)) (acknowledgementBytes value) old) old) (sym t)
 
-pub unplanned : (wanted : Bool) (value : Message) (room : ℕ) → wanted ≡ false → plannedOf wanted value room ≡ Written 0
-unfolding plannedOf
-unplanned wanted value room t = ap (λ (b : Bool). cond b (reasoned (acknowledging value room)) (Written 0)) t
+  pub unstored : (old : List ℕ) → wanted ≡ false → old ≡ answeredBy wanted value old
+  unfolding answeredBy
+  unstored old t = ap (λ (b : Bool). cond b (bufferAfter (acknowledging value (length old)) (acknowledgementBytes value) old) old) (sym t)
 
--- ---- writing it
-
-pub stored : (value : Message) (n : ℕ) (old : List ℕ) (w : Writing) → n ≡ checkLength value → n ≤ 20
-    → w ≡ writeOf value [] (take n (zeros 20)) (length old) → bufferAfter w (bytesOf value [] (take n (zeros 20))) old ≡ acknowledged value old
-unfolding acknowledged acknowledging acknowledgementBytes
-stored value n old w e l h =
-    ap (λ (a : Writing). bufferAfter a (bytesOf value [] (take n (zeros 20))) old) h
-    ∙ ap (λ (check : List ℕ). bufferAfter (writeOf value [] check (length old)) (bytesOf value [] check) old) (blank value n e l)
+  -- a refusal leaves it as it was
+  pub unwritten : (old : List ℕ) (r : Refusal) → plannedOf wanted value (length old) ≡ Refused r → answeredBy wanted value old ≡ old
+  unfolding plannedOf answeredBy
+  unwritten old r = go wanted (acknowledging value (length old))
+    where
+      go : (w : Bool) (a : Writing) → cond w (reasoned a) (Written 0) ≡ Refused r → cond w (bufferAfter a (acknowledgementBytes value) old) old ≡ old
+      go true (Written n) e = differ e
+      go true (Refused q) e = refl
+      go false a e = refl

@@ -32,7 +32,7 @@ use Rattle.window.proofs.Promises.{no-position-twice}
 use Rattle.reception.specs.declared.answers.Received.{Received}
 use Rattle.reception.specs.declared.answers.Received.the-variants as Received
 use Rattle.reception.specs.Table.{rows, freed, rowOf, withRow, findOf}
-use Rattle.reception.specs.Acknowledgement.{acknowledgementOf, blankCheck, acknowledgementBytes, acknowledging}
+use Rattle.writer.specs.Acknowledgement.{acknowledgementOf, blankCheck, acknowledgementBytes, acknowledging}
 use Rattle.reception.specs.Receiving.{Beside, senderOf, placeOf, answerTo, receivingOrder, answerOf, receiveOf, tableBy, receiveTable, bufferBy, receiveBuffer}
 use Rattle.reception.specs.Removing.{removeTable}
 use Rattle.reception.specs.History.{Step, arrives, leaves, answerAt, tableAt, answersOf, tableOf, emptyTable, Book, emptyBook, isNew, joined, fullFor, under, receiveBy, answerBy, bookAfter, bookWithout, bookAt, answersBy, bookOf, handedIn}

@@ -33,7 +33,8 @@ use Rattle.window.proofs.Promises.{gateway, name-stays, gateway-stray-bit}
 use Rattle.window.proofs.Rows.{fits-gateway}
 use Rattle.reception.specs.Table.{rows, bit, freed, rowOf, withRow, isFree, findOf, freeOf}
 use Rattle.reception.specs.Receiving.{Beside, senderOf, noRow, rolledIn, answerTo, deliveryOrder, admissionOrder, afterReading, receivingOrder, received, answerOf, receiveOf, tableAfter, tableBy, receiveTable}
-use Rattle.reception.specs.Acknowledgement.{acknowledging, unwritable, noRoom}
+use Rattle.writer.specs.Acknowledgement.{acknowledging}
+use Rattle.reception.specs.Acknowledgement.{unwritable, noRoom}
 use Rattle.reception.specs.declared.answers.Received.{Received}
 use Rattle.reception.specs.declared.answers.Received.the-variants as Received
 use Rattle.reception.specs.declared.answers.Removed.the-variants as Removed

@@ -46,6 +46,21 @@ this-node w key true e l = one (eqb (w / 2 ^ 32 % 2 ^ 17) (2 ^ 16 + key)) refl
         sym (ap₂ (λ (a b : Bool). a && true && b) (eq-eqb (w / 2 ^ 48 % 2) 1 u) (eq-eqb (w / 2 ^ 32 % 2 ^ 16) key v))
     one false h = two (eqb (w / 2 ^ 48 % 2) 1) refl (eqb-false _ _ h)
 
+-- a row in use under a name is known but for its ids
+pub named-row : (row : Row) (node key : ℕ) → named node key row ≡ true → record { used = true; node = node; key = key; highest = row .highest; marks = row .marks } ≡ row
+named-row row node key = go (row .used) (eqb (row .node) node) (eqb (row .key) key) refl refl refl
+  where
+    go : (u n k : Bool) → row .used ≡ u → eqb (row .node) node ≡ n → eqb (row .key) key ≡ k → (u && n && k) ≡ true
+        → record { used = true; node = node; key = key; highest = row .highest; marks = row .marks } ≡ row
+    go true true true eu en ek h =
+        let n : row .node ≡ node = eqb-true _ _ en in
+        let k : row .key ≡ key = eqb-true _ _ ek in
+        ap₂ (λ (x y : ℕ). record { used = true; node = x; key = y; highest = row .highest; marks = row .marks }) (sym n) (sym k)
+        ∙ ap (λ (b : Bool). record { used = b; node = row .node; key = row .key; highest = row .highest; marks = row .marks }) (sym eu)
+    go true true false eu en ek h = clash false h refl
+    go true false k eu en ek h = clash false h refl
+    go false n k eu en ek h = clash false h refl
+
 -- ---- numbers within the table
 
 pub row-within : (t : List ℕ) (i : ℕ) → i < rows → rowAt t i ≡ rowOf t i

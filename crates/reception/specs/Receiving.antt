@@ -16,10 +16,13 @@ use Rattle.window.specs.declared.Rolled.{Rolled}
 use Rattle.window.specs.declared.Verdict.{Verdict}
 use Rattle.window.specs.declared.Verdict.the-variants as Verdict
 use Rattle.message.specs.declared.value.Message.{Message}
+use Rattle.message.specs.declared.answers.Writing.{Writing}
+use Rattle.message.specs.declared.answers.Writing.the-variants.{Written, Refused}
 use Rattle.reception.specs.declared.answers.Received.{Received}
 use Rattle.reception.specs.declared.answers.Received.the-variants as Received
 use Rattle.reception.specs.Table.{rows, rowOf, withRow, findOf, freeOf}
-use Rattle.reception.specs.Acknowledgement.{acknowledgementOf, acknowledgementBytes, acknowledging, unwritable, noRoom}
+use Rattle.writer.specs.Acknowledgement.{acknowledgementOf, acknowledgementBytes, acknowledging}
+use Rattle.reception.specs.Acknowledgement.{unwritable, noRoom}
 
 -- what comes with a message: the own node, the link's node, the check result, the acknowledgement's id, and the room in the output buffer
 pub record Beside : Type 0 where
@@ -107,12 +110,28 @@ answerOf number verdict value m = received number verdict m (only (m .wants) (to
 abbrev pub verdictIn : List ℕ → ℕ → Message → Verdict
 verdictIn t sender m = rolledIn t sender (m .key) (m .id) .verdict
 
+-- the answer to a message of this sender that 16 to 18 let pass
+abbrev pub admitOf : Message → ℕ → ℕ → Message → List ℕ → Received
+admitOf value room sender m t =
+    answerOf (first (admissionOrder value room m (noRow t sender (m .key)))) (verdictIn t sender m) value m
+
+-- the answer to a message that was read
+abbrev pub deliverOf : Beside → Message → List ℕ → Received
+deliverOf b m t =
+    let sender = senderOf (b .link) m in
+    answerOf (first (afterReading b m (noRow t sender (m .key)))) (verdictIn t sender m) (answerTo b m) m
+
 -- the answer to bytes, by the table
 unfoldable pub receiveOf : Beside → List ℕ → List ℕ → Received
 receiveOf b bytes t =
     let m = messageOf bytes in
     let sender = senderOf (b .link) m in
     answerOf (first (receivingOrder b bytes (noRow t sender (m .key)))) (verdictIn t sender m) (answerTo b m) m
+
+-- the answer where all rows are in use, by what the message would be answered with: 22 and 19 stand before 20
+abbrev pub fullOf : Writing → Received
+fullOf (Written n) = Received.Refused (refusal 20)
+fullOf (Refused r) = Received.Refused r
 
 -- only a new message changes the table, and it puts one row
 abbrev pub tableAfter : Received → List ℕ → ℕ → Row → List ℕ

@@ -1,11 +1,14 @@
 // Receiving a message, from its bytes to the verdict. The row is found once; it is rolled by value and
 // put back only if the message is new.
 ghost use mathlib.Core.Path.{_≡_};
-ghost use Prim.Native.Nat.{_<_};
+ghost use mathlib.Core.Bool.{false};
+ghost use Prim.Native.Nat.{_<_, _≤_};
 ghost use lib.ListN.{length};
 ghost use Rattle.message.specs.Order.{first};
-ghost use Rattle.reception.specs.Table.{rows};
-ghost use Rattle.reception.specs.Receiving.{beside, senderOf, notOurs, badLink, unchecked, placeOf, rolledIn, noRow, deliveryOrder, admissionOrder, afterReading, answerTo, verdictIn, received, answerOf, receiveOf, tableAfter, tableBy, receiveTable, bufferBy, receiveBuffer};
+ghost use Rattle.message.specs.Refusals.{badSource};
+ghost use Rattle.writer.specs.Acknowledgement.{acknowledgementOf};
+ghost use Rattle.reception.specs.Table.{rows, findOf};
+ghost use Rattle.reception.specs.Receiving.{beside, senderOf, notOurs, unchecked, deliveryOrder, answerTo, received, admitOf, fullOf, deliverOf, receiveOf, tableAfter, tableBy, receiveTable, bufferBy, receiveBuffer};
 use crate::acknowledgement;
 use crate::answers::Received;
 use crate::search;
@@ -32,14 +35,13 @@ fn refused(number: u8) -> Received
 fn not_ours(own: u64, m: Message) -> bool
     ensures { λ r. ⌜ r ≡ notOurs own m ⌝ }
 {
-    m.destined & !((m.destination == own) | (m.destination == layout::NODE_ANY))
-}
-
-// 17
-fn bad_link(link: u64, m: Message) -> bool
-    ensures { λ r. ⌜ r ≡ badLink link m ⌝ }
-{
-    !m.sourced & message::is_nobody(link)
+    if !m.destined {
+        return false;
+    }
+    if m.destination == own {
+        return false;
+    }
+    m.destination != layout::NODE_ANY
 }
 
 // 18
@@ -49,14 +51,23 @@ fn unchecked(passed: bool, m: Message) -> bool
     (m.encrypt == layout::ENCRYPTED) & !passed
 }
 
-// The number of the refusal that sender, receiver and check decide, 16 to 18, or 0.
-fn delivery_refusal(own: u64, link: u64, passed: bool, m: Message) -> u8
+// The sender: the message's own source, else the link's node.
+fn sender_of(link: u64, m: Message) -> u64
+    ensures { λ r. ⌜ r ≡ senderOf link m ⌝ }
+{
+    if m.sourced { m.source } else { link }
+}
+
+// The number of the refusal that receiver, sender and check decide, 16 to 18, or 0. A source that is
+// present is somebody's, so a sender who is nobody is the link's: 17.
+fn delivery_refusal(own: u64, link: u64, sender: u64, passed: bool, m: Message) -> u8
+    requires { ⌜ (sender ≡ senderOf link m) × (badSource (m .sourced) (m .source) ≡ false) ⌝ }
     ensures { λ r. ⌜ r ≡ first (deliveryOrder own link passed m) ⌝ }
 {
     if not_ours(own, m) {
         return Refusal::NOT_OURS;
     }
-    if bad_link(link, m) {
+    if message::is_nobody(sender) {
         return Refusal::SENDER;
     }
     if unchecked(passed, m) {
@@ -65,83 +76,111 @@ fn delivery_refusal(own: u64, link: u64, passed: bool, m: Message) -> u8
     0
 }
 
-// The sender: the message's own source, else the link's node.
-fn sender_of(link: u64, m: Message) -> u64
-    ensures { λ r. ⌜ r ≡ senderOf link m ⌝ }
-{
-    if m.sourced { m.source } else { link }
-}
-
-// What a message does to the table: the number of its row, the verdict, the row after it.
-struct Step {
+// Puts the row of a new message; a duplicate changes nothing.
+fn settle(
+    table: &mut [u64; WORDS],
     place: usize,
     rolled: Rolled,
-}
-
-// The step of an id under a name; the table is not changed. Where the name has no row, one is opened
-// at the lowest free number, which is the number of rows if all are in use.
-fn judge(table: &[u64; WORDS], node: u64, key: u16, id: u32) -> Step
-    ensures { λ r. ⌜ (r .place ≡ placeOf (now (table .entry)) node key) × (r .rolled ≡ rolledIn (now (table .entry)) node key id) ⌝ }
+    m: Message,
+    length: usize,
+) -> Received
+    requires { ⌜ place < rows ⌝ }
+    ensures result { λ r. ⌜ r ≡ received 0 (rolled .verdict) m length ⌝ }
+    ensures table { λ r. ⌜ now (table .exit) ≡ tableAfter r (now (table .entry)) place (rolled .row) ⌝ }
 {
-    let found = search::find(table, node, key);
-    if found < ROWS {
-        let row = table::row_at(table, found);
-        return Step {
-            place: found,
-            rolled: row.rolled(id),
-        };
-    }
-    Step {
-        place: search::find_free(table),
-        rolled: Rolled {
-            verdict: Verdict::New,
-            row: Row::open(node, key, id),
-        },
-    }
-}
-
-// Puts the row of a new message; a duplicate changes nothing.
-fn settle(table: &mut [u64; WORDS], step: Step, m: Message, length: usize) -> Received
-    requires { ⌜ step .place < rows ⌝ }
-    ensures result { λ r. ⌜ r ≡ received 0 (step .rolled .verdict) m length ⌝ }
-    ensures table { λ r. ⌜ now (table .exit) ≡ tableAfter r (now (table .entry)) (step .place) (step .rolled .row) ⌝ }
-{
-    let rolled = step.rolled;
     let verdict = rolled.verdict;
     match verdict {
         Verdict::New => {
-            table::put_row(table, step.place, rolled.row);
+            table::put_row(table, place, rolled.row);
             Received::New(m, length)
         }
         Verdict::Duplicate => Received::Duplicate(m, length),
     }
 }
 
-// A message whose sender, receiver and check are good: 22 and 19 where an acknowledgement is wanted,
-// then 20; then the acknowledgement is written and the row moved.
-fn admit(
+// The answer where all rows are in use: 22 and 19, then 20.
+fn full(planned: Writing) -> Received
+    ensures { λ r. ⌜ r ≡ fullOf planned ⌝ }
+{
+    match planned {
+        Writing::Refused(refusal) => Received::Refused(refusal),
+        Writing::Written(_) => refused(Refusal::FULL),
+    }
+}
+
+// A message whose name has the row at a number: 22 and 19 where an acknowledgement is wanted; then it
+// is written, and the row is rolled.
+fn admit_known(
+    found: usize,
+    own: u64,
     sender: u64,
+    id: u32,
     m: Message,
-    answer: Message,
     table: &mut [u64; WORDS],
     out: &mut [u8],
 ) -> Received
-    ensures result { λ r. ⌜ r ≡ answerOf (first (admissionOrder answer (length (now (out .entry))) m (noRow (now (table .entry)) sender (m .key)))) (verdictIn (now (table .entry)) sender m) answer m ⌝ }
+    requires { ⌜ (found ≡ findOf rows (now table) sender (m .key)) × (found < rows) ⌝ }
+    ensures result { λ r. ⌜ r ≡ admitOf (acknowledgementOf own sender id m) (length (now (out .entry))) sender m (now (table .entry)) ⌝ }
     ensures table { λ r. ⌜ now (table .exit) ≡ tableBy r sender m (now (table .entry)) ⌝ }
-    ensures buffer { λ r. ⌜ now (out .exit) ≡ bufferBy r answer m (now (out .entry)) ⌝ }
+    ensures buffer { λ r. ⌜ now (out .exit) ≡ bufferBy r (acknowledgementOf own sender id m) m (now (out .entry)) ⌝ }
 {
-    let planned = acknowledgement::plan(m.wants, answer, out.len());
-    match planned {
+    let answer = acknowledgement::acknowledge(own, sender, id, m, out);
+    match answer {
         Writing::Refused(refusal) => Received::Refused(refusal),
         Writing::Written(length) => {
-            let step = judge(table, sender, m.key, m.id);
-            if ROWS <= step.place {
-                return refused(Refusal::FULL);
-            }
-            acknowledgement::acknowledge(m.wants, answer, out);
-            settle(table, step, m, length)
+            let row = search::row_named(table, found, sender, m.key);
+            settle(table, found, row.rolled(m.id), m, length)
         }
     }
+}
+
+// A message whose name has no row: 22 and 19 where an acknowledgement is wanted, then 20; then the
+// acknowledgement is written, and a row is opened at the lowest free number.
+fn admit_first(
+    own: u64,
+    sender: u64,
+    id: u32,
+    m: Message,
+    table: &mut [u64; WORDS],
+    out: &mut [u8],
+) -> Received
+    requires { ⌜ rows ≤ findOf rows (now table) sender (m .key) ⌝ }
+    ensures result { λ r. ⌜ r ≡ admitOf (acknowledgementOf own sender id m) (length (now (out .entry))) sender m (now (table .entry)) ⌝ }
+    ensures table { λ r. ⌜ now (table .exit) ≡ tableBy r sender m (now (table .entry)) ⌝ }
+    ensures buffer { λ r. ⌜ now (out .exit) ≡ bufferBy r (acknowledgementOf own sender id m) m (now (out .entry)) ⌝ }
+{
+    let place = search::find_free(table);
+    if ROWS <= place {
+        return full(acknowledgement::plan(own, sender, id, m, out.len()));
+    }
+    let answer = acknowledgement::acknowledge(own, sender, id, m, out);
+    match answer {
+        Writing::Refused(refusal) => Received::Refused(refusal),
+        Writing::Written(length) => {
+            table::put_row(table, place, Row::open(sender, m.key, m.id));
+            Received::New(m, length)
+        }
+    }
+}
+
+// A message whose sender, receiver and check are good, by whether its name has a row.
+fn admit(
+    own: u64,
+    sender: u64,
+    id: u32,
+    m: Message,
+    table: &mut [u64; WORDS],
+    out: &mut [u8],
+) -> Received
+    ensures result { λ r. ⌜ r ≡ admitOf (acknowledgementOf own sender id m) (length (now (out .entry))) sender m (now (table .entry)) ⌝ }
+    ensures table { λ r. ⌜ now (table .exit) ≡ tableBy r sender m (now (table .entry)) ⌝ }
+    ensures buffer { λ r. ⌜ now (out .exit) ≡ bufferBy r (acknowledgementOf own sender id m) m (now (out .entry)) ⌝ }
+{
+    let found = search::find(table, sender, m.key);
+    if found < ROWS {
+        return admit_known(found, own, sender, id, m, table, out);
+    }
+    admit_first(own, sender, id, m, table, out)
 }
 
 // A message that was read: 16 to 18, and then the rest.
@@ -154,22 +193,17 @@ fn deliver(
     table: &mut [u64; WORDS],
     out: &mut [u8],
 ) -> Received
-    ensures result { λ r. ⌜ r ≡ answerOf (first (afterReading (beside own link passed id (length (now (out .entry)))) m (noRow (now (table .entry)) (senderOf link m) (m .key)))) (verdictIn (now (table .entry)) (senderOf link m) m) (answerTo (beside own link passed id (length (now (out .entry)))) m) m ⌝ }
+    requires { ⌜ badSource (m .sourced) (m .source) ≡ false ⌝ }
+    ensures result { λ r. ⌜ r ≡ deliverOf (beside own link passed id (length (now (out .entry)))) m (now (table .entry)) ⌝ }
     ensures table { λ r. ⌜ now (table .exit) ≡ tableBy r (senderOf link m) m (now (table .entry)) ⌝ }
     ensures buffer { λ r. ⌜ now (out .exit) ≡ bufferBy r (answerTo (beside own link passed id (length (now (out .entry)))) m) m (now (out .entry)) ⌝ }
 {
-    let number = delivery_refusal(own, link, passed, m);
+    let sender = sender_of(link, m);
+    let number = delivery_refusal(own, link, sender, passed, m);
     if number != 0 {
         return refused(number);
     }
-    let sender = sender_of(link, m);
-    admit(
-        sender,
-        m,
-        acknowledgement::acknowledgement(own, sender, id, m),
-        table,
-        out,
-    )
+    admit(own, sender, id, m, table, out)
 }
 
 // Receives a message: `own` is our node, `link` the node that the link names, `passed` the check

@@ -32,9 +32,9 @@ pub(crate) const KEYS: u64 = 0x1_0000;
 
 pub(crate) const IN_USE: u64 = KEY * KEYS;
 
-const IDS: u64 = KEY;
+pub(crate) const IDS: u64 = KEY;
 
-const MARK_BITS: u64 = 0x1_0000;
+pub(crate) const MARK_BITS: u64 = 0x1_0000;
 
 // The row at a number. Past the last row it is free, and zero in every field.
 pub fn row_at(table: &[u64; WORDS], number: usize) -> Row

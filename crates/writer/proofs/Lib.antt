@@ -1,4 +1,5 @@
 pub mod Maybe
 pub mod Steps
+pub mod Bare
 pub mod Writings
 pub mod Clear

@@ -3,13 +3,14 @@ use Prim.Native.Nat.{ℕ}
 use mathlib.Core.Path.{_≡_, refl}
 use mathlib.Core.Bool.{true, false}
 use mathlib.Core.List.{List, [], _∷_, _++_}
+use lib.Dec.{ltb}
 use Rattle.message.specs.Order.{_when_, first}
-use Rattle.message.specs.Refusals.{badVersion, oldTunnel, badEncrypt, oldAsks, addressOrder}
+use Rattle.message.specs.Refusals.{badVersion, oldTunnel, badEncrypt, oldAsks, strayAddress, total, addressOrder}
 use Rattle.message.specs.declared.value.Message.{Message}
 use Rattle.message.proofs.Order.{numbered, first-hit, first-pass}
 use Rattle.message.proofs.Numbered.{address-numbered}
 use Rattle.writer.specs.Writing.{writingOrder}
-use Rattle.writer.specs.Steps.{valueOrder, partsOrder}
+use Rattle.writer.specs.Steps.{valueOrder, partsOrder, acknowledgingOrder}
 
 -- the numbers of what the value decides are of refusals
 pub value-numbered : (m : Message) → numbered (valueOrder m) ≡ true
@@ -33,3 +34,14 @@ module _ (m : Message) (v : badVersion (m .version) ≡ false) (t : oldTunnel (m
 pub writing-steps : (m : Message) (payload check : List ℕ) (room : ℕ) → writingOrder m payload check room ≡ valueOrder m ++ partsOrder m payload check room
 unfolding writingOrder valueOrder partsOrder
 writing-steps m payload check room = refl
+
+-- the acknowledgement's own order: the address fields decide, and else what follows them
+module _ (value : Message) (room : ℕ) (e : badEncrypt (value .encrypt) ≡ false) where
+  pub acknowledging-hit : (first (addressOrder value) ≡ 0 → ⊥) → first (acknowledgingOrder value room) ≡ first (addressOrder value)
+  unfolding acknowledgingOrder
+  acknowledging-hit h = simp (e) (first-hit (addressOrder value) (14 when strayAddress value ∷ 19 when ltb room (total value []) ∷ []) h)
+
+  pub acknowledging-pass : first (addressOrder value) ≡ 0 → first (acknowledgingOrder value room) ≡ first (14 when strayAddress value ∷ 19 when ltb room (total value []) ∷ [])
+  unfolding acknowledgingOrder
+  acknowledging-pass h =
+      simp (e) (first-pass (addressOrder value) (14 when strayAddress value ∷ 19 when ltb room (total value []) ∷ []) (address-numbered value) h)

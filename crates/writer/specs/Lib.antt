@@ -1,3 +1,4 @@
 -- What the contracts of `writer` cite.
 pub mod Writing
 pub mod Steps
+pub mod Acknowledgement

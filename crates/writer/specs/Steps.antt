@@ -1,9 +1,9 @@
 -- The steps in which the code judges what is to be written. `proofs/Steps.antt` ties them to the order of writing. Assumes nothing.
 use Prim.Native.Nat.{ℕ}
-use mathlib.Core.List.{List, [], _∷_}
+use mathlib.Core.List.{List, [], _∷_, _++_}
 use lib.Dec.{ltb}
 use Rattle.message.specs.Order.{Condition, _when_}
-use Rattle.message.specs.Refusals.{tooLong, badVersion, oldTunnel, badEncrypt, badKey, badSource, badDestination, oldAsks, emptyPacket, wrongPacket, stray, total}
+use Rattle.message.specs.Refusals.{tooLong, badVersion, oldTunnel, badEncrypt, badKey, badSource, badDestination, oldAsks, emptyPacket, wrongPacket, strayAddress, stray, total, addressOrder}
 use Rattle.message.specs.declared.value.Message.{Message}
 
 -- what the value alone decides, and what the payload, the check bytes and the room decide
@@ -26,3 +26,9 @@ partsOrder m payload check room =
     ∷ 1 when tooLong (total m payload)
     ∷ 19 when ltb room (total m payload)
     ∷ []
+
+-- what can be refused of the value of an acknowledgement: the rest of the order of writing never holds of it
+unfoldable pub acknowledgingOrder : Message → ℕ → List Condition
+acknowledgingOrder value room =
+    6 when badEncrypt (value .encrypt)
+    ∷ (addressOrder value ++ (14 when strayAddress value ∷ 19 when ltb room (total value []) ∷ []))

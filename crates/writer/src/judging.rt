@@ -48,7 +48,7 @@ fn wrong_packet(m: Message, payload: &[u8]) -> bool
 }
 
 // An absent address field is not zero.
-fn stray_address(m: Message) -> bool
+pub(crate) fn stray_address(m: Message) -> bool
     ensures { λ r. ⌜ r ≡ strayAddress m ⌝ }
 {
     (!m.sourced & (m.source != 0))

@@ -49,7 +49,7 @@ fn exchange_header_of(m: Message) -> u8
 }
 
 // Header, message id, source, destination, key id.
-fn store_address(out: &mut [u8], m: Message) -> usize
+pub(crate) fn store_address(out: &mut [u8], m: Message) -> usize
     requires { ⌜ (bodyOf m ≤ length (now out)) × (m .version ≤ 2) × (m .encrypt ≤ 1) ⌝ }
     ensures { λ r. ⌜ (r ≡ bodyOf m) × (now (out .exit) ≡ sets (now (out .entry)) 0 (addressBytes m)) ⌝ }
 {
@@ -61,7 +61,7 @@ fn store_address(out: &mut [u8], m: Message) -> usize
 }
 
 // Exchange header, type, exchange id, profile id, acknowledged id.
-fn store_exchange(out: &mut [u8], at: usize, m: Message) -> usize
+pub(crate) fn store_exchange(out: &mut [u8], at: usize, m: Message) -> usize
     requires { ⌜ at + 8 + only (m .acknowledges) 4 ≤ length (now out) ⌝ }
     ensures { λ r. ⌜ (r ≡ at + 8 + only (m .acknowledges) 4) × (now (out .exit) ≡ sets (now (out .entry)) at (exchangeBytes m)) ⌝ }
 {

@@ -1,10 +1,13 @@
--- A refusal by nodes or check is the answer; else what follows answers, of the sender and the acknowledgement's value. Assumes nothing.
+-- A refusal by nodes or check is the answer; else what follows answers, of the sender. Assumes nothing.
 use mathlib.Core.Path.{refl}
-use borrow.Author.Needs.{needs}
 use Rattle.message.proofs.Logic.{so}
 use Rattle.reception.proofs.Orders.{refuses-all, not-delivered, delivers}
+use borrow.Author.Needs.{needs}
 use Rattle.reception.proofs.receiving.deliver.Statement.{statement}
 use Rattle.reception.proofs.receiving.deliver.Tie as tie
+
+delivery-refusal-requires : tie.Need-delivery-refusal-requires
+delivery-refusal-requires c κs = (c .sender-of .ensures, c .before .before .pre)
 
 returns : tie.Need-returns
 returns c =
@@ -13,20 +16,18 @@ returns c =
 
 returns-2 : tie.Need-returns-2
 returns-2 c =
-    let n = c .before .before .before .before .before .before .before .before .delivery-refusal .ensures in
+    let n = c .before .before .before .before .before .before .delivery-refusal .ensures in
     let e = c .before .before .admit .ensures in
-    delivers _ _ _ _ _ _ _ _ _ refl (c .before .before .before .before .before .before .sender-of .ensures) (c .before .before .before .before .before .acknowledgement .ensures)
-    (so n (c .before .before .before .before .before .before .before .if1 .left)) (e .0) (e .1 .0) (e .1 .1)
+    delivers _ _ _ _ _ _ _ _ _ refl (c .before .before .before .before .before .before .before .sender-of .ensures) refl (so n (c .before .before .before .before .before .if1 .left)) (e .0) (e .1 .0) (e .1 .1)
 
 pub deliver-spec : {M : Type 1} → statement M
 deliver-spec =
     tie.close
     (tie.spec
     (λ c κs. search needs)
+    delivery-refusal-requires
     (λ c κs. search needs)
     returns
-    (λ c κs. search needs)
-    (λ c κs. search needs)
     (λ c κs. search needs)
     (λ c. search needs)
     returns-2)

@@ -24,6 +24,9 @@ returns-3 c =
     receives-none _ _ _ _ _ _ refl
     (not-read _ _ _ (so (c .before .before .before .before .before .is-nobody .ensures) (c .before .before .before .before .if1 .left)) _ (so (c .before .before .before .read .ensures) (c .before .reading2 .given .1)))
 
+deliver-requires : tie.Need-deliver-requires
+deliver-requires c κs = taken _ _ (so (c .before .before .before .before .before .read .ensures) (c .before .before .before .reading .given .1)) .1 .outer .source
+
 pub receive-spec : {M : Type 1} → statement M
 receive-spec =
     tie.close
@@ -33,7 +36,7 @@ receive-spec =
     returns
     (λ c κs. search needs)
     (λ c. search needs)
-    (λ c κs. search needs)
+    deliver-requires
     (λ c. search needs)
     (λ c. search needs)
     returns-2

@@ -1,8 +1,8 @@
 -- Field by field, as the definition has them. Assumes nothing.
 use mathlib.Core.Path.{refl}
-use Rattle.reception.specs.Acknowledgement.{acknowledgementOf}
-use Rattle.reception.proofs.acknowledgement.acknowledgement.Statement.{statement}
-use Rattle.reception.proofs.acknowledgement.acknowledgement.Tie as tie
+use Rattle.writer.specs.Acknowledgement.{acknowledgementOf}
+use Rattle.writer.proofs.acknowledging.acknowledgement.Statement.{statement}
+use Rattle.writer.proofs.acknowledging.acknowledgement.Tie as tie
 
 returns : tie.Need-returns
 unfolding acknowledgementOf
