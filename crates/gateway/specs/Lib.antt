@@ -1,0 +1,3 @@
+-- What the contracts of `gateway` cite.
+pub mod Fields
+pub mod Answers
