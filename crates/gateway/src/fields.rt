@@ -1,6 +1,7 @@
 // A message value in the places of an array, and back.
 ghost use mathlib.Core.Path.{_≡_};
 ghost use Prim.Native.Nat.{_+_, _≤_};
+ghost use lib.ListN.{length};
 ghost use Rattle.message.specs.Layout.{only, headLength, checkLength};
 ghost use Rattle.gateway.specs.Fields.{flagsOf, fieldsOf, onlyFlags, fits, Fitting, valueFrom};
 use crate::places;
@@ -58,20 +59,14 @@ fn flags(m: Message) -> u64
         + only64(m.wants, places::WANTS)
 }
 
-// Puts a value whose bytes have this length, and a verdict and the length of a reply, into all places.
-pub(crate) fn store(
-    m: Message,
-    length: usize,
-    verdict: u64,
-    reply: usize,
-    fields: &mut [u64; FIELDS],
-)
-    requires { ⌜ headLength m + checkLength m ≤ length ⌝ }
-    ensures { λ _. ⌜ now (fields .exit) ≡ fieldsOf m length verdict reply ⌝ }
+// Puts a value whose message has this size, a verdict and the length of a reply into all places.
+pub(crate) fn store(m: Message, size: usize, verdict: u64, reply: usize, fields: &mut [u64])
+    requires { ⌜ (headLength m + checkLength m ≤ size) × (length (now fields) ≡ 17) ⌝ }
+    ensures { λ _. ⌜ now (fields .exit) ≡ fieldsOf m size verdict reply ⌝ }
 {
     let head = message::head_length(m);
     let check = message::check_length(m);
-    let end = length - check;
+    let end = size - check;
     let payload = end - head;
     fields[places::VERSION] = wide8(m.version);
     fields[places::ENCRYPT] = wide8(m.encrypt);

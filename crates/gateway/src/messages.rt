@@ -1,5 +1,6 @@
 // Messages: outer reading, reading and writing.
 ghost use mathlib.Core.Path.{_≡_};
+ghost use mathlib.Core.List.{[], _∷_};
 ghost use lib.ListN.{length};
 ghost use Rattle.message.specs.Value.{bytesOf};
 ghost use Rattle.message.specs.Answers.{readingNumber, outerNumber, writingNumber, bufferAfter};
@@ -15,6 +16,15 @@ use message::Reading;
 use message::Refusal;
 use message::Writing;
 
+// Puts the start and the length of a part into its places.
+fn store_part(start: usize, len: usize, part: &mut [u64])
+    requires { ⌜ length (now part) ≡ 2 ⌝ }
+    ensures { λ _. ⌜ now (part .exit) ≡ start ∷ len ∷ [] ⌝ }
+{
+    part[places::PART_START] = start as u64;
+    part[places::PART_LENGTH] = len as u64;
+}
+
 // Where the protected part of a message starts and how long it is. Refusals 1 to 9.
 #[no_mangle]
 pub extern "C" fn kabizarle_read_outer(bytes: &[u8], part: &mut [u64; PART_PLACES]) -> u32
@@ -24,8 +34,7 @@ pub extern "C" fn kabizarle_read_outer(bytes: &[u8], part: &mut [u64; PART_PLACE
     let outer = reader::read_outer(bytes);
     match outer {
         OuterReading::Protected(start, len) => {
-            part[places::PART_START] = start as u64;
-            part[places::PART_LENGTH] = len as u64;
+            store_part(start, len, part);
             places::NO_REFUSAL
         }
         OuterReading::Refused(refusal) => refusal.number as u32,

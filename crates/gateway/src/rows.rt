@@ -1,5 +1,6 @@
 // Rows: rolling one that is lent, and reading one of the table.
 ghost use mathlib.Core.Path.{_≡_};
+ghost use lib.ListN.{length};
 ghost use Rattle.window.specs.Rows.{rolledOf};
 ghost use Rattle.reception.specs.Table.{bit, rowOf, withRow, rowAt};
 ghost use Rattle.gateway.specs.Answers.{verdictNumber, rolledWords, rowPlaces};
@@ -54,6 +55,18 @@ fn use_bit(used: bool) -> u64
     if used { 1 } else { 0 }
 }
 
+// Puts the fields of a row into their places.
+fn store_row(read: Row, row: &mut [u64])
+    requires { ⌜ length (now row) ≡ 5 ⌝ }
+    ensures { λ _. ⌜ now (row .exit) ≡ rowPlaces read ⌝ }
+{
+    row[places::ROW_USED] = use_bit(read.used);
+    row[places::ROW_NODE] = read.node;
+    row[places::ROW_KEY] = read.key as u64;
+    row[places::ROW_HIGHEST] = read.highest as u64;
+    row[places::ROW_MARKS] = read.marks as u64;
+}
+
 // The fields of the row at a number; past the last row they are all zero. Never refuses.
 #[no_mangle]
 pub extern "C" fn kabizarle_row(
@@ -64,11 +77,6 @@ pub extern "C" fn kabizarle_row(
     ensures result { λ r. ⌜ r ≡ 0 ⌝ }
     ensures row { λ _. ⌜ now (row .exit) ≡ rowPlaces (rowAt (now (table .entry)) number) ⌝ }
 {
-    let read = reception::row_at(table, number);
-    row[places::ROW_USED] = use_bit(read.used);
-    row[places::ROW_NODE] = read.node;
-    row[places::ROW_KEY] = read.key as u64;
-    row[places::ROW_HIGHEST] = read.highest as u64;
-    row[places::ROW_MARKS] = read.marks as u64;
+    store_row(reception::row_at(table, number), row);
     places::NO_REFUSAL
 }

@@ -1,5 +1,6 @@
 // Streams: finding a message in one, and putting a message into one.
 ghost use mathlib.Core.Path.{_≡_};
+ghost use mathlib.Core.List.{[], _∷_};
 ghost use lib.ListN.{length};
 ghost use Rattle.message.specs.Answers.{writingNumber, bufferAfter};
 ghost use Rattle.stream.specs.Stream.{unframeOf, frameBytes, frameOf};
@@ -8,6 +9,18 @@ use crate::messages;
 use crate::places;
 use crate::places::FRAME_PLACES;
 use message::Unframed;
+
+// Puts what is wanted, and where a message and the rest of the stream stand, into their places.
+fn store_frame(wanted: usize, start: usize, len: usize, rest: usize, left: usize, frame: &mut [u64])
+    requires { ⌜ length (now frame) ≡ 5 ⌝ }
+    ensures { λ _. ⌜ now (frame .exit) ≡ wanted ∷ start ∷ len ∷ rest ∷ left ∷ [] ⌝ }
+{
+    frame[places::FRAME_WANTED] = wanted as u64;
+    frame[places::FRAME_START] = start as u64;
+    frame[places::FRAME_LENGTH] = len as u64;
+    frame[places::REST_START] = rest as u64;
+    frame[places::REST_LENGTH] = left as u64;
+}
 
 // Where the message at the front of a stream stands, and what follows it; or how many bytes are still
 // wanted. Never refuses.
@@ -20,19 +33,18 @@ pub extern "C" fn kabizarle_unframe(stream: &[u8], frame: &mut [u64; FRAME_PLACE
     match unframed {
         Unframed::Whole(len) => {
             let rest = places::FRAME_BYTES + len;
-            frame[places::FRAME_WANTED] = 0;
-            frame[places::FRAME_START] = places::FRAME_BYTES as u64;
-            frame[places::FRAME_LENGTH] = len as u64;
-            frame[places::REST_START] = rest as u64;
-            frame[places::REST_LENGTH] = (stream.len() - rest) as u64;
+            store_frame(
+                0,
+                places::FRAME_BYTES,
+                len,
+                rest,
+                stream.len() - rest,
+                frame,
+            );
             places::NO_REFUSAL
         }
         Unframed::Incomplete(wanted) => {
-            frame[places::FRAME_WANTED] = wanted as u64;
-            frame[places::FRAME_START] = 0;
-            frame[places::FRAME_LENGTH] = 0;
-            frame[places::REST_START] = 0;
-            frame[places::REST_LENGTH] = 0;
+            store_frame(wanted, 0, 0, 0, 0, frame);
             places::NO_REFUSAL
         }
     }
