@@ -7,10 +7,16 @@ use borrow.Author.Tests.{ltb-true}
 use Rattle.message.proofs.Logic.{clash}
 use Rattle.gateway.specs.Fields.{fits, Fitting}
 
+-- both hold, taken apart and put together
 pub and-true : (a b : Bool) → (a && b) ≡ true → (a ≡ true) × (b ≡ true)
 and-true true b e = (refl, e)
 and-true false b e = clash false e refl
 
+pub true-and : (a b : Bool) → a ≡ true → b ≡ true → (a && b) ≡ true
+true-and true b p q = q
+true-and false b p q = p
+
+-- every place is within its bound
 pub fitting : (fields : List ℕ) → fits fields ≡ true → Fitting fields
 unfolding fits
 fitting fields e =
