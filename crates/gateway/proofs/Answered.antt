@@ -17,7 +17,8 @@ use Rattle.window.specs.declared.Verdict.the-variants as Verdict
 use Rattle.window.specs.Rows.{rolledOf}
 use Rattle.reception.specs.Table.{rowOf, withRow}
 use Rattle.gateway.specs.Fields.{fits, valueFrom}
-use Rattle.gateway.specs.Answers.{writeFrom, writtenAfter, verdictNumber, wordsAfter, rolledWords}
+use Rattle.gateway.specs.Messages.{writeFrom, writtenAfter}
+use Rattle.gateway.specs.Rows.{verdictNumber, wordsAfter, rolledWords}
 
 -- ---- writing
 

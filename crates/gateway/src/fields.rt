@@ -8,20 +8,23 @@ use crate::places;
 use crate::places::FIELDS;
 use message::Message;
 
-// The bound of a field of one byte, of two, and of four.
-const BYTE: u64 = 0x100;
+// One more than the greatest number of a field of one byte, of two, and of four.
+const ABOVE_8: u64 = 0x100;
 
-const SHORT: u64 = 0x1_0000;
+const ABOVE_16: u64 = 0x1_0000;
 
-const WORD: u64 = 0x1_0000_0000;
+const ABOVE_32: u64 = 0x1_0000_0000;
 
-// The bound of the flags; between the two groups of flags are the places of 32 numbers, whose weight is 8.
-const FLAGS: u64 = 2048;
+// One more than the greatest number up to the highest flag; and between the flags of the exchange
+// header and those of the header, the weight of the bits that are no flags, and how many numbers
+// they hold.
+const ABOVE_FLAGS: u64 = 2048;
 
 const BETWEEN: u64 = 8;
 
-const BETWEEN_BITS: u64 = 32;
+const BETWEEN_NUMBERS: u64 = 32;
 
+// The same number, in a place.
 fn wide8(x: u8) -> u64
     ensures { λ r. ⌜ r ≡ x ⌝ }
 {
@@ -91,22 +94,22 @@ pub(crate) fn store(m: Message, size: usize, verdict: u64, reply: usize, fields:
 fn only_flags(flags: u64) -> bool
     ensures { λ r. ⌜ r ≡ onlyFlags flags ⌝ }
 {
-    (flags < FLAGS) & (flags / BETWEEN % BETWEEN_BITS == 0)
+    (flags < ABOVE_FLAGS) & (flags / BETWEEN % BETWEEN_NUMBERS == 0)
 }
 
 // Whether each place of a value holds a number that its field can hold.
 pub(crate) fn fit(fields: &[u64; FIELDS]) -> bool
     ensures { λ r. ⌜ r ≡ fits (now (fields .entry)) ⌝ }
 {
-    (fields[places::VERSION] < BYTE)
-        & (fields[places::ENCRYPT] < BYTE)
+    (fields[places::VERSION] < ABOVE_8)
+        & (fields[places::ENCRYPT] < ABOVE_8)
         & only_flags(fields[places::FLAGS])
-        & (fields[places::ID] < WORD)
-        & (fields[places::KEY] < SHORT)
-        & (fields[places::KIND] < BYTE)
-        & (fields[places::EXCHANGE] < SHORT)
-        & (fields[places::PROFILE] < WORD)
-        & (fields[places::ACKNOWLEDGED] < WORD)
+        & (fields[places::ID] < ABOVE_32)
+        & (fields[places::KEY] < ABOVE_16)
+        & (fields[places::KIND] < ABOVE_8)
+        & (fields[places::EXCHANGE] < ABOVE_16)
+        & (fields[places::PROFILE] < ABOVE_32)
+        & (fields[places::ACKNOWLEDGED] < ABOVE_32)
 }
 
 // The value that the places say.

@@ -6,7 +6,7 @@ ghost use Rattle.message.specs.Value.{bytesOf};
 ghost use Rattle.message.specs.Answers.{readingNumber, outerNumber, writingNumber, bufferAfter};
 ghost use Rattle.reader.specs.Reading.{readOf, outerOf};
 ghost use Rattle.gateway.specs.Fields.{valueFrom};
-ghost use Rattle.gateway.specs.Answers.{partAfter, readAfter, writeFrom, writtenAfter};
+ghost use Rattle.gateway.specs.Messages.{partAfter, readAfter, writeFrom, writtenAfter};
 use crate::fields;
 use crate::places;
 use crate::places::FIELDS;

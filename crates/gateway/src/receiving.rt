@@ -3,7 +3,7 @@ ghost use mathlib.Core.Path.{_≡_};
 ghost use lib.ListN.{length};
 ghost use Rattle.reception.specs.Receiving.{beside, receiveOf, receiveTable, receiveBuffer};
 ghost use Rattle.reception.specs.Removing.{removeOf, removeTable};
-ghost use Rattle.gateway.specs.Answers.{receivedNumber, receivedAfter, removedNumber};
+ghost use Rattle.gateway.specs.Receiving.{receivedNumber, receivedAfter, removedNumber};
 use crate::fields;
 use crate::places;
 use crate::places::FIELDS;

@@ -3,13 +3,22 @@ ghost use mathlib.Core.Path.{_≡_};
 ghost use lib.ListN.{length};
 ghost use Rattle.window.specs.Rows.{rolledOf};
 ghost use Rattle.reception.specs.Table.{bit, rowOf, withRow, rowAt};
-ghost use Rattle.gateway.specs.Answers.{verdictNumber, rolledWords, rowPlaces};
+ghost use Rattle.gateway.specs.Rows.{verdictNumber, rolledWords, rowPlaces};
 use crate::places;
 use crate::places::ROW_PLACES;
 use crate::places::ROW_WORDS;
 use crate::places::TABLE_WORDS;
 use window::Row;
 use window::Verdict;
+
+// Puts a row into its three words.
+fn put(words: &mut [u64; ROW_WORDS], row: Row)
+    ensures { λ _. ⌜ now (words .exit) ≡ withRow (now (words .entry)) 0 row ⌝ }
+{
+    words[places::NODE_WORD] = row.node;
+    words[places::STATE_WORD] = reception::state_of(row);
+    words[places::MARKS_WORD] = row.marks as u64;
+}
 
 // Rolls a row forward by one id where it stands, in three words as the table has them, and says the
 // verdict. New: the three words are put whole; duplicate: they stay as they were. Never refuses.
@@ -37,15 +46,6 @@ pub extern "C" fn kabizarle_roll(row: &mut [u64; ROW_WORDS], id: u32, verdict: &
             places::NO_REFUSAL
         }
     }
-}
-
-// Puts a row into its three words.
-fn put(words: &mut [u64; ROW_WORDS], row: Row)
-    ensures { λ _. ⌜ now (words .exit) ≡ withRow (now (words .entry)) 0 row ⌝ }
-{
-    words[places::NODE_WORD] = row.node;
-    words[places::STATE_WORD] = reception::state_of(row);
-    words[places::MARKS_WORD] = row.marks as u64;
 }
 
 // 1 for a row in use, else 0.

@@ -5,7 +5,7 @@ use Rattle.message.specs.Answers.{readingNumber}
 use Rattle.message.specs.declared.answers.Reading.{Reading}
 use Rattle.message.proofs.Logic.{so}
 use Rattle.reader.proofs.Clear.{fits}
-use Rattle.gateway.specs.Answers.{readAfter}
+use Rattle.gateway.specs.Messages.{readAfter}
 use borrow.Author.Needs.{needs}
 use Rattle.gateway.proofs.messages.kabizarle_read.Statement.{statement}
 use Rattle.gateway.proofs.messages.kabizarle_read.Tie as tie

@@ -3,7 +3,7 @@ use mathlib.Core.Path.{sym, ap, _∙_}
 use Rattle.message.specs.Answers.{outerNumber}
 use Rattle.message.specs.declared.answers.OuterReading.{OuterReading}
 use Rattle.message.proofs.Logic.{so}
-use Rattle.gateway.specs.Answers.{partAfter}
+use Rattle.gateway.specs.Messages.{partAfter}
 use borrow.Author.Needs.{needs}
 use Rattle.gateway.proofs.messages.kabizarle_read_outer.Statement.{statement}
 use Rattle.gateway.proofs.messages.kabizarle_read_outer.Tie as tie

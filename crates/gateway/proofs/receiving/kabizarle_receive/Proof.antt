@@ -5,7 +5,7 @@ use Rattle.reception.specs.declared.answers.Received.{Received}
 use Rattle.message.proofs.Logic.{so}
 use Rattle.reader.proofs.Clear.{fits}
 use Rattle.reception.proofs.WasRead.{new-was-read, duplicate-was-read}
-use Rattle.gateway.specs.Answers.{receivedNumber, receivedAfter}
+use Rattle.gateway.specs.Receiving.{receivedNumber, receivedAfter}
 use borrow.Author.Needs.{needs}
 use Rattle.gateway.proofs.receiving.kabizarle_receive.Statement.{statement}
 use Rattle.gateway.proofs.receiving.kabizarle_receive.Tie as tie

@@ -1,7 +1,7 @@
 -- The number of the answer, and the table that removing leaves. Assumes nothing.
 use mathlib.Core.Path.{sym, ap}
 use Rattle.message.proofs.Logic.{so}
-use Rattle.gateway.specs.Answers.{removedNumber}
+use Rattle.gateway.specs.Receiving.{removedNumber}
 use borrow.Author.Needs.{needs}
 use Rattle.gateway.proofs.receiving.kabizarle_remove.Statement.{statement}
 use Rattle.gateway.proofs.receiving.kabizarle_remove.Tie as tie

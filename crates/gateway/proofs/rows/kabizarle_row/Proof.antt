@@ -1,6 +1,6 @@
 -- The row that was read is stored. Assumes nothing.
 use mathlib.Core.Path.{refl, ap, _∙_}
-use Rattle.gateway.specs.Answers.{rowPlaces}
+use Rattle.gateway.specs.Rows.{rowPlaces}
 use borrow.Author.Needs.{needs}
 use Rattle.gateway.proofs.rows.kabizarle_row.Statement.{statement}
 use Rattle.gateway.proofs.rows.kabizarle_row.Tie as tie

@@ -1,7 +1,7 @@
 -- Every place is stored to. Assumes nothing.
 use native.Mathlib.Omega.{arith}
 use lib.ListN.{length-set}
-use Rattle.gateway.specs.Answers.{rowPlaces}
+use Rattle.gateway.specs.Rows.{rowPlaces}
 use Rattle.gateway.proofs.Spelled.{stored5}
 use borrow.Author.Needs.{needs}
 use Rattle.gateway.proofs.rows.store_row.Statement.{statement}

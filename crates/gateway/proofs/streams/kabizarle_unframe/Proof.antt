@@ -5,7 +5,7 @@ use native.Mathlib.Omega.{arith}
 use Rattle.message.specs.declared.answers.Unframed.{Unframed}
 use Rattle.message.proofs.Logic.{so}
 use Rattle.stream.proofs.Streams.{whole-there}
-use Rattle.gateway.specs.Answers.{framePlaces}
+use Rattle.gateway.specs.Streams.{framePlaces}
 use borrow.Author.Needs.{needs}
 use Rattle.gateway.proofs.streams.kabizarle_unframe.Statement.{statement}
 use Rattle.gateway.proofs.streams.kabizarle_unframe.Tie as tie
