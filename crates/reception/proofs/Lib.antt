@@ -9,4 +9,5 @@ pub mod Places
 pub mod Planned
 pub mod Steps
 pub mod Told
+pub mod WasRead
 pub mod Words

@@ -15,3 +15,5 @@ pub use table::ROWS;
 pub use table::WORDS;
 pub use table::put_row;
 pub use table::row_at;
+pub use table::row_from;
+pub use table::state_of;

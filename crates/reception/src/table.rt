@@ -9,8 +9,9 @@
 //
 // Bits that belong to no field are never looked at, and are clear once the row is put.
 ghost use mathlib.Core.Path.{_≡_};
-ghost use Prim.Native.Nat.{_≤_};
-ghost use Rattle.reception.specs.Table.{bit, rowAt, putAt};
+ghost use mathlib.Core.List.{[], _∷_};
+ghost use Prim.Native.Nat.{_+_, _*_, _^_, _≤_};
+ghost use Rattle.reception.specs.Table.{bit, rowOf, rowAt, putAt};
 use window::Row;
 
 // How many rows there are, how many words a row takes, and how many words that makes.
@@ -36,6 +37,19 @@ pub(crate) const IDS: u64 = KEY;
 
 pub(crate) const MARK_BITS: u64 = 0x1_0000;
 
+// The row that three words hold: node, then in-use bit, key id and highest id in one, then the marks.
+pub fn row_from(node: u64, state: u64, marks: u64) -> Row
+    ensures { λ r. ⌜ r ≡ rowOf (node ∷ state ∷ marks ∷ []) 0 ⌝ }
+{
+    Row {
+        used: state / IN_USE % 2 == 1,
+        node,
+        key: (state / KEY % KEYS) as u16,
+        highest: (state % IDS) as u32,
+        marks: (marks % MARK_BITS) as u16,
+    }
+}
+
 // The row at a number. Past the last row it is free, and zero in every field.
 pub fn row_at(table: &[u64; WORDS], number: usize) -> Row
     ensures { λ r. ⌜ r ≡ rowAt (now (table .entry)) number ⌝ }
@@ -49,14 +63,11 @@ pub fn row_at(table: &[u64; WORDS], number: usize) -> Row
             marks: 0,
         };
     }
-    let state = table[ROW * number + STATE];
-    Row {
-        used: state / IN_USE % 2 == 1,
-        node: table[ROW * number],
-        key: (state / KEY % KEYS) as u16,
-        highest: (state % IDS) as u32,
-        marks: (table[ROW * number + MARKS] % MARK_BITS) as u16,
-    }
+    row_from(
+        table[ROW * number],
+        table[ROW * number + STATE],
+        table[ROW * number + MARKS],
+    )
 }
 
 // 1 for a row in use, else 0.
@@ -64,6 +75,13 @@ fn use_bit(used: bool) -> u64
     ensures { λ r. ⌜ (r ≡ bit used) × (r ≤ 1) ⌝ }
 {
     if used { 1 } else { 0 }
+}
+
+// Word 1 of a row: in-use bit, key id and highest id.
+pub fn state_of(row: Row) -> u64
+    ensures { λ r. ⌜ r ≡ bit (row .used) * 2 ^ 48 + (row .key * 2 ^ 32 + row .highest) ⌝ }
+{
+    use_bit(row.used) * IN_USE + (row.key as u64 * KEY + row.highest as u64)
 }
 
 // Puts a row at a number, its three words whole; all other words stay. Past the last row nothing
@@ -75,7 +93,6 @@ pub fn put_row(table: &mut [u64; WORDS], number: usize, row: Row)
         return;
     }
     table[ROW * number] = row.node;
-    table[ROW * number + STATE] = use_bit(row.used) * IN_USE
-        + (row.key as u64 * KEY + row.highest as u64);
+    table[ROW * number + STATE] = state_of(row);
     table[ROW * number + MARKS] = row.marks as u64;
 }

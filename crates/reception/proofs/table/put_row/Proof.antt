@@ -13,7 +13,7 @@ returns c = simp (le-ltb _ _ (c .if1 .taken))
 
 returns-2 : tie.Need-returns-2
 unfolding withRow
-returns-2 c = rw (c .before .before .before .use-bit .ensures .0) (sym (put-within _ _ _ (search needs)))
+returns-2 c = rw (c .before .state-of .ensures) (sym (put-within _ _ _ (search needs)))
 
 pub put-row-spec : {M : Type 1} → statement M
 put-row-spec =
@@ -24,12 +24,6 @@ put-row-spec =
     (λ c. search needs)
     (λ c. search needs)
     (λ c κs. search needs)
-    (λ c. search needs)
-    (λ c. search needs)
-    (λ c. search needs)
-    (λ c. search needs)
-    (λ c. search needs)
-    (λ c. search needs)
     (λ c. search needs)
     (λ c. search needs)
     (λ c. search needs)

@@ -1,5 +1,5 @@
--- The fields are read where the definition has them, and past the last row it has zeros. Assumes nothing.
-use mathlib.Core.Path.{sym}
+-- The three words are read where the definition has them, and past the last row it has zeros. Assumes nothing.
+use mathlib.Core.Path.{sym, _∙_}
 use borrow.Author.Needs.{needs}
 use borrow.Author.Tests.{le-ltb}
 use Rattle.reception.specs.Table.{rowOf, rowAt}
@@ -13,7 +13,7 @@ returns c = simp (le-ltb _ _ (c .if1 .taken))
 
 returns-2 : tie.Need-returns-2
 unfolding rowOf
-returns-2 c = sym (row-within _ _ (c .before .before .before .if1 .left))
+returns-2 c = c .row-from .ensures ∙ sym (row-within _ _ (search needs))
 
 pub row-at-spec : {M : Type 1} → statement M
 row-at-spec =
@@ -31,7 +31,5 @@ row-at-spec =
     (λ c. search needs)
     (λ c. search needs)
     (λ c. search needs)
-    (λ c. search needs)
-    (λ c. search needs)
-    (λ c. search needs)
+    (λ c κs. search needs)
     returns-2)

@@ -1,0 +1,56 @@
+-- A message with a verdict was read, and is stored with it; a refusal stores nothing. Assumes nothing.
+use mathlib.Core.Path.{sym, ap, _∙_}
+use lib.ListN.{length}
+use Rattle.reception.specs.declared.answers.Received.{Received}
+use Rattle.message.proofs.Logic.{so}
+use Rattle.reader.proofs.Clear.{fits}
+use Rattle.reception.proofs.WasRead.{new-was-read, duplicate-was-read}
+use Rattle.gateway.specs.Receiving.{receivedNumber, receivedAfter}
+use borrow.Author.Needs.{needs}
+use Rattle.gateway.proofs.receiving.kabizarle_receive.Statement.{statement}
+use Rattle.gateway.proofs.receiving.kabizarle_receive.Tie as tie
+
+store-requires : tie.Need-store-requires
+store-requires c κs = (fits _ _ (new-was-read _ _ _ _ _ (so (c .before .before .before .before .before .before .receive .ensures .0) (c .before .before .answer .given .1))), search needs)
+
+store-requires-2 : tie.Need-store-requires-2
+store-requires-2 c κs = (fits _ _ (duplicate-was-read _ _ _ _ _ (so (c .before .before .before .before .before .before .receive .ensures .0) (c .before .before .answer2 .given .1))), search needs)
+
+returns : tie.Need-returns
+returns c =
+    let a = c .before .before .before .before .before .before .before .before .before .before .before .before .args in
+    let d = c .before .before .before .before .before .before .before .receive .ensures in
+    let e = so (d .0) (c .before .before .before .answer .given .1) in
+    (sym (ap receivedNumber e), (d .1 .0, (d .1 .1, c .store .ensures ∙ sym (ap (λ (r : Received). receivedAfter r (length (a .bytes .now)) (a .fields .now)) e))))
+
+returns-2 : tie.Need-returns-2
+returns-2 c =
+    let a = c .before .before .before .before .before .before .before .before .before .before .before .before .args in
+    let d = c .before .before .before .before .before .before .before .receive .ensures in
+    let e = so (d .0) (c .before .before .before .answer2 .given .1) in
+    (sym (ap receivedNumber e), (d .1 .0, (d .1 .1, c .store2 .ensures ∙ sym (ap (λ (r : Received). receivedAfter r (length (a .bytes .now)) (a .fields .now)) e))))
+
+returns-3 : tie.Need-returns-3
+returns-3 c =
+    let a = c .before .before .before .before .before .before .before .before .before .before .before .args in
+    let d = c .before .before .before .before .before .before .receive .ensures in
+    let e = so (d .0) (c .before .before .answer3 .given .1) in
+    (sym (ap receivedNumber e), (d .1 .0, (d .1 .1, sym (ap (λ (r : Received). receivedAfter r (length (a .bytes .now)) (a .fields .now)) e))))
+
+pub kabizarle-receive-spec : {M : Type 1} → statement M
+kabizarle-receive-spec =
+    tie.close
+    (tie.spec
+    (λ c κs. search needs)
+    (λ c. search needs)
+    store-requires
+    (λ c. search needs)
+    store-requires-2
+    (λ c. search needs)
+    (λ c. search needs)
+    (λ c. search needs)
+    returns
+    (λ c. search needs)
+    returns-2
+    (λ c. search needs)
+    returns-3)

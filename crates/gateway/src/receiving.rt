@@ -1,0 +1,57 @@
+// Receiving a message, and removing a row.
+ghost use mathlib.Core.Path.{_≡_};
+ghost use lib.ListN.{length};
+ghost use Rattle.reception.specs.Receiving.{beside, receiveOf, receiveTable, receiveBuffer};
+ghost use Rattle.reception.specs.Removing.{removeOf, removeTable};
+ghost use Rattle.gateway.specs.Receiving.{receivedNumber, receivedAfter, removedNumber};
+use crate::fields;
+use crate::places;
+use crate::places::FIELDS;
+use crate::places::TABLE_WORDS;
+use reception::Received;
+use reception::Removed;
+
+// Receives a message: the fields say its value, its parts, the verdict and the length of the
+// acknowledgement, which stands at the front of `out`. Whatever receiving refuses.
+#[no_mangle]
+pub extern "C" fn kabizarle_receive(
+    own: u64,
+    link: u64,
+    passed: bool,
+    id: u32,
+    bytes: &[u8],
+    table: &mut [u64; TABLE_WORDS],
+    out: &mut [u8],
+    fields: &mut [u64; FIELDS],
+) -> u32
+    ensures result { λ r. ⌜ r ≡ receivedNumber (receiveOf (beside own link passed id (length (now (out .entry)))) (now (bytes .entry)) (now (table .entry))) ⌝ }
+    ensures table { λ _. ⌜ now (table .exit) ≡ receiveTable (beside own link passed id (length (now (out .entry)))) (now (bytes .entry)) (now (table .entry)) ⌝ }
+    ensures buffer { λ _. ⌜ now (out .exit) ≡ receiveBuffer (beside own link passed id (length (now (out .entry)))) (now (bytes .entry)) (now (table .entry)) (now (out .entry)) ⌝ }
+    ensures fields { λ _. ⌜ now (fields .exit) ≡ receivedAfter (receiveOf (beside own link passed id (length (now (out .entry)))) (now (bytes .entry)) (now (table .entry))) (length (now (bytes .entry))) (now (fields .entry)) ⌝ }
+{
+    let answer = reception::receive(own, link, passed, id, bytes, table, out);
+    match answer {
+        Received::New(m, reply) => {
+            fields::store(m, bytes.len(), places::NEW, reply, fields);
+            places::NO_REFUSAL
+        }
+        Received::Duplicate(m, reply) => {
+            fields::store(m, bytes.len(), places::DUPLICATE, reply, fields);
+            places::NO_REFUSAL
+        }
+        Received::Refused(refusal) => refusal.number as u32,
+    }
+}
+
+// Frees the row of a name: all its words are zero. Refusal 21.
+#[no_mangle]
+pub extern "C" fn kabizarle_remove(table: &mut [u64; TABLE_WORDS], node: u64, key: u16) -> u32
+    ensures result { λ r. ⌜ r ≡ removedNumber (removeOf (now (table .entry)) node key) ⌝ }
+    ensures table { λ _. ⌜ now (table .exit) ≡ removeTable (now (table .entry)) node key ⌝ }
+{
+    let answer = reception::remove(table, node, key);
+    match answer {
+        Removed::Done => places::NO_REFUSAL,
+        Removed::Refused(refusal) => refusal.number as u32,
+    }
+}
