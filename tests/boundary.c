@@ -266,8 +266,16 @@ static void refusals_of_writing(void)
 	MUST(kabizarle_read(TUNNEL, sizeof TUNNEL, lent.fields) == 0);
 	REFUSED(2, put(0, 0, sizeof lent.out));
 	REFUSED(13, put(3, 0, sizeof lent.out)); /* its first byte is 0x10 */
-	lent.fields[KABIZARLE_PROFILE] = 1;
-	REFUSED(14, kabizarle_write(lent.fields, TUNNEL + 7, 5, NULL, 0, lent.out, sizeof lent.out, &lent.written));
+	for (size_t p = KABIZARLE_SOURCE; p <= KABIZARLE_ACKNOWLEDGED; p++) {
+		MUST(kabizarle_read(TUNNEL, sizeof TUNNEL, lent.fields) == 0);
+		lent.fields[p] = 0x2001; /* a tunnelled message with no node has none of these fields */
+		REFUSED(14, kabizarle_write(lent.fields, TUNNEL + 7, 5, NULL, 0, lent.out, sizeof lent.out, &lent.written));
+	}
+	MUST(kabizarle_read(TUNNEL, sizeof TUNNEL, lent.fields) == 0);
+	for (uint64_t bit = KABIZARLE_INITIATOR; bit <= KABIZARLE_WANTS; bit *= 2) {
+		lent.fields[KABIZARLE_FLAGS] = KABIZARLE_TUNNELLED + bit;
+		REFUSED(14, kabizarle_write(lent.fields, TUNNEL + 7, 5, NULL, 0, lent.out, sizeof lent.out, &lent.written));
+	}
 }
 
 /* Places with numbers that their fields cannot hold are refused before all else; the largest that they can hold are written. */
