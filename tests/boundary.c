@@ -48,7 +48,8 @@ static void must(bool holds, int line, const char *what)
 #define MUST(fact) must(fact, __LINE__, #fact)
 
 /* A call that is refused by its number, and leaves all that was lent as it was. */
-#define REFUSED(number, call) (kept = lent, must((call) == (number), __LINE__, #call " is " #number), must(unchanged(), __LINE__, #call " changes nothing"))
+#define REFUSED(number, call) \
+	(kept = lent, must((call) == (number), __LINE__, #call " is " #number), must(unchanged(), __LINE__, #call " changes nothing"))
 
 static bool unchanged(void) { return memcmp(&lent, &kept, sizeof lent) == 0; }
 
@@ -81,8 +82,15 @@ static uint8_t *guarded(void)
 static const uint8_t *lend(const uint8_t *bytes, size_t length) { return memcpy(read_end - length, bytes, length); }
 
 /* Receiving and writing with what is lent. */
-static uint32_t receive(const uint8_t *bytes, size_t length) { return kabizarle_receive(OWN, 0, true, REPLY_ID, bytes, length, lent.table, lent.out, 64, lent.fields); }
-static uint32_t put(size_t payload, size_t check, size_t room) { return kabizarle_write(lent.fields, SECRET, payload, SECRET + 39, check, lent.out, room, &lent.written); }
+static uint32_t receive(const uint8_t *bytes, size_t length)
+{
+	return kabizarle_receive(OWN, 0, true, REPLY_ID, bytes, length, lent.table, lent.out, 64, lent.fields);
+}
+
+static uint32_t put(size_t payload, size_t check, size_t room)
+{
+	return kabizarle_write(lent.fields, SECRET, payload, SECRET + 39, check, lent.out, room, &lent.written);
+}
 
 /* A message that reading and receiving refuse, and outer reading too where the refusal is one of its own. */
 static void refused(uint32_t number, const uint8_t *bytes, size_t length)
@@ -108,7 +116,9 @@ static void spoiled(uint32_t number, const uint8_t *message, size_t length, size
 /* Every refusal of reading, each by its nearest legal message. */
 static void refusals_of_reading(void)
 {
-	static const uint8_t two[6][3] = { { 0x00, 0x20, 2 }, { 0x00, 0x30, 3 }, { 0x01, 0x20, 4 }, { 0x00, 0x28, 4 }, { 0x00, 0x14, 5 }, { 0x20, 0x20, 6 } };
+	static const uint8_t two[][3] = {
+		{ 0x00, 0x20, 2 }, { 0x00, 0x30, 3 }, { 0x01, 0x20, 4 }, { 0x00, 0x28, 4 }, { 0x00, 0x14, 5 }, { 0x20, 0x20, 6 },
+	};
 	uint8_t nodes[sizeof X];
 
 	for (size_t i = 0; i < LENGTH(two); i++)
@@ -195,7 +205,8 @@ static void largest_lengths(void)
 		MUST(kabizarle_unframe(lend(X, 2), lengths[i], lent.frame) == 0);
 		MUST(lent.frame[KABIZARLE_FRAME_WANTED] == (lengths[i] < 0x2302 ? 0x2302 - lengths[i] : 0));
 	}
-	MUST(lent.frame[KABIZARLE_FRAME_LENGTH] == 0x2300 && lent.frame[KABIZARLE_REST_START] == 0x2302 && lent.frame[KABIZARLE_REST_LENGTH] == PTRDIFF_MAX - 0x2302);
+	MUST(lent.frame[KABIZARLE_FRAME_LENGTH] == 0x2300 && lent.frame[KABIZARLE_REST_START] == 0x2302);
+	MUST(lent.frame[KABIZARLE_REST_LENGTH] == PTRDIFF_MAX - 0x2302);
 	MUST(kabizarle_read(lend(longest, sizeof longest), sizeof longest, lent.fields) == 0);
 	MUST(lent.fields[KABIZARLE_PAYLOAD_LENGTH] == KABIZARLE_LONGEST - 14);
 	MUST(kabizarle_write(lent.fields, longest + 14, KABIZARLE_LONGEST - 14, NULL, 0, write_end - KABIZARLE_LONGEST, PTRDIFF_MAX, &lent.written) == 0);
@@ -355,7 +366,8 @@ static void receiving(void)
 	kept = lent;
 	uint8_t *out = write_end - sizeof REPLY;
 	MUST(kabizarle_receive(OWN, 0, false, REPLY_ID, X, sizeof X, lent.table, out, sizeof REPLY, lent.fields) == 0);
-	MUST(lent.fields[KABIZARLE_VERDICT] == KABIZARLE_DUPLICATE && memcmp(out, REPLY, sizeof REPLY) == 0 && memcmp(lent.table, kept.table, sizeof lent.table) == 0);
+	MUST(lent.fields[KABIZARLE_VERDICT] == KABIZARLE_DUPLICATE && memcmp(out, REPLY, sizeof REPLY) == 0);
+	MUST(memcmp(lent.table, kept.table, sizeof lent.table) == 0);
 	for (size_t room = 0; room < sizeof REPLY; room++)
 		REFUSED(19, kabizarle_receive(OWN, 0, true, REPLY_ID, X, sizeof X, lent.table, lent.out, room, lent.fields));
 	for (size_t room = 0; room < KABIZARLE_ACKNOWLEDGEMENT_BYTES; room++)
@@ -383,15 +395,16 @@ static void full_table(void)
 	for (uint8_t i = 0; i < KABIZARLE_ROWS; i++) {
 		bytes[NAME_AT] = (uint8_t)(0x20 + i);
 		MUST(receive(bytes, sizeof bytes) == 0 && lent.fields[KABIZARLE_VERDICT] == KABIZARLE_NEW);
-		MUST(kabizarle_row(lent.table, i, lent.shown) == 0 && lent.shown[KABIZARLE_ROW_USED] == 1 && lent.shown[KABIZARLE_ROW_NODE] == (OWN & ~UINT64_C(255)) + 0x20 + i);
-		MUST(lent.shown[KABIZARLE_ROW_KEY] == 0 && lent.shown[KABIZARLE_ROW_HIGHEST] == 5 && lent.shown[KABIZARLE_ROW_MARKS] == 0);
+		MUST(kabizarle_row(lent.table, i, lent.shown) == 0);
+		MUST(memcmp(lent.shown, (const uint64_t[]){ 1, SENDER - 0x0e + 0x20 + i, 0, 5, 0 }, sizeof lent.shown) == 0);
 	}
 	REFUSED(20, receive(X, sizeof X));
 	REFUSED(20, receive(SECRET, sizeof SECRET));
 	REFUSED(20, kabizarle_receive(OWN, SENDER, true, 0, TUNNEL, sizeof TUNNEL, lent.table, NULL, 0, lent.fields));
 	REFUSED(19, kabizarle_receive(OWN, 0, true, 0, X, sizeof X, lent.table, lent.out, 33, lent.fields));
 	kept = lent;
-	MUST(receive(bytes, sizeof bytes) == 0 && lent.fields[KABIZARLE_VERDICT] == KABIZARLE_DUPLICATE && memcmp(lent.table, kept.table, sizeof lent.table) == 0);
+	MUST(receive(bytes, sizeof bytes) == 0 && lent.fields[KABIZARLE_VERDICT] == KABIZARLE_DUPLICATE);
+	MUST(memcmp(lent.table, kept.table, sizeof lent.table) == 0);
 	REFUSED(21, kabizarle_remove(lent.table, SENDER, 0));
 	REFUSED(21, kabizarle_remove(lent.table, SENDER + 0x19, 1));
 	kept = lent;
@@ -423,7 +436,7 @@ static void odd_tables(void)
 /* Rows as numbers; past the last row all places are zero, also where the place of the row would wrap. */
 static void rows(void)
 {
-	static const size_t past[] = { KABIZARLE_ROWS, KABIZARLE_ROWS + 1, KABIZARLE_TABLE_WORDS, SIZE_MAX / 24 + 1, SIZE_MAX / 3 + 1, PTRDIFF_MAX, SIZE_MAX };
+	static const size_t past[] = { KABIZARLE_ROWS, KABIZARLE_ROWS + 1, KABIZARLE_TABLE_WORDS, SIZE_MAX / 24 + 1, SIZE_MAX / 3 + 1, SIZE_MAX };
 	static const uint64_t zeros[KABIZARLE_ROW_PLACES];
 
 	for (size_t i = 0; i < LENGTH(past); i++) {
@@ -434,8 +447,9 @@ static void rows(void)
 		MUST(kabizarle_row(lent.table, past[i], lent.shown) == 0 && memcmp(lent.shown, zeros, sizeof zeros) == 0);
 		MUST(unchanged());
 	}
-	MUST(kabizarle_row(lent.table, KABIZARLE_ROWS - 1, lent.shown) == 0 && lent.shown[KABIZARLE_ROW_USED] == 1 && lent.shown[KABIZARLE_ROW_NODE] == ALL_ONES);
-	MUST(lent.shown[KABIZARLE_ROW_KEY] == UINT16_MAX && lent.shown[KABIZARLE_ROW_HIGHEST] == UINT32_MAX && (lent.shown[KABIZARLE_ROW_MARKS] & MARKS) == MARKS);
+	MUST(kabizarle_row(lent.table, KABIZARLE_ROWS - 1, lent.shown) == 0);
+	lent.shown[KABIZARLE_ROW_MARKS] &= MARKS; /* the other bits stand for no mark */
+	MUST(memcmp(lent.shown, (const uint64_t[]){ 1, ALL_ONES, UINT16_MAX, UINT32_MAX, MARKS }, sizeof lent.shown) == 0);
 	lent.table[1] = ~(UINT64_C(1) << 48);
 	MUST(kabizarle_row(lent.table, 0, lent.shown) == 0 && lent.shown[KABIZARLE_ROW_USED] == 0);
 }
