@@ -187,7 +187,8 @@ static void empty_slices(void)
 	MUST(lent.fields[KABIZARLE_VERDICT] == KABIZARLE_NEW && lent.fields[KABIZARLE_REPLY_LENGTH] == 0);
 }
 
-/* Lengths past the longest message, up to the largest that an object can have. Of what is too long nothing is read. */
+/* Lengths past the longest message, up to the largest that an object can have. Of a message that is too long nothing is read; of a
+ * payload writing may look at the first byte, and of a stream unframing looks at the first two. */
 static void largest_lengths(void)
 {
 	static const size_t lengths[] = { KABIZARLE_LONGEST + 1, UINT16_MAX + (size_t)31, UINT32_MAX + (size_t)31, PTRDIFF_MAX };
@@ -200,7 +201,7 @@ static void largest_lengths(void)
 		REFUSED(1, receive(read_end, lengths[i]));
 		REFUSED(1, kabizarle_frame(read_end, lengths[i], lent.out, sizeof lent.out, &lent.written));
 		MUST(kabizarle_read(SECRET, sizeof SECRET, lent.fields) == 0);
-		REFUSED(1, kabizarle_write(lent.fields, read_end, lengths[i], SECRET, 20, lent.out, sizeof lent.out, &lent.written));
+		REFUSED(1, kabizarle_write(lent.fields, lend(X, 1), lengths[i], SECRET, 20, lent.out, sizeof lent.out, &lent.written));
 		REFUSED(14, kabizarle_write(lent.fields, SECRET, 3, read_end, lengths[i], lent.out, sizeof lent.out, &lent.written));
 		MUST(kabizarle_unframe(lend(X, 2), lengths[i], lent.frame) == 0);
 		MUST(lent.frame[KABIZARLE_FRAME_WANTED] == (lengths[i] < 0x2302 ? 0x2302 - lengths[i] : 0));
