@@ -1,0 +1,18 @@
+/* How the programs reach baseline.c. An adapter offers GW_TABLE_BYTES, gw_open and gw_receive; what it costs counts as the call. */
+#include "baseline.h"
+#include "answer.h"
+#define GW_TABLE_BYTES sizeof(struct wv_table)
+
+static inline void gw_open(void *table) { *(struct wv_table *)table = (struct wv_table){ 0 }; }
+
+static inline struct gw_answer gw_receive(void *table, uint64_t own, uint64_t link, uint32_t id, bool passed,
+	const uint8_t *message, size_t length, uint8_t *out, size_t room)
+{
+	struct wv_arrival a = { message, length, own, link, id, passed };
+	struct wv_received r;
+	int refusal = wv_receive(table, &a, out, room, &r);
+
+	if (refusal)
+		return (struct gw_answer){ (uint32_t)refusal, false, 0 };
+	return (struct gw_answer){ 0, r.verdict == WV_DUPLICATE, r.ack_len };
+}

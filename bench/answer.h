@@ -1,0 +1,10 @@
+/* What the programs want to know of a receive. */
+#include <stdbool.h>
+#include <stddef.h>
+#include <stdint.h>
+
+struct gw_answer {
+	uint32_t refusal;
+	bool duplicate;
+	uint32_t reply_length;
+};

@@ -1,0 +1,88 @@
+/* check: the worked examples through the adapter: X and its acknowledgement, the refusals of two bytes, the ledger P1 to P12 by its verdicts.
+ * Exit status: 0, or the number of the first that fails: 1 to 12 for the ledger, 101 and up for the rest. */
+#include "start.h"
+#include "messages.h"
+
+enum { MARKS = 15 };
+#define MARK(k) (1u << ((k) - 1))
+
+static const uint8_t REPLY[34] = { 0x00, 0x23, 9, 0, 0, 0, 2, 0, 0, 0, 0, 0, 0, 1, 2, 0, 0, 0, 0, 0, 0, 0x0e, 0x12, 2, 2, 1, 0, 0, 0, 0, 5, 0, 0, 0 };
+static const uint8_t TWO[6][3] = { { 0x00, 0x20, 2 }, { 0x00, 0x30, 3 }, { 0x01, 0x20, 4 }, { 0x00, 0x28, 4 }, { 0x00, 0x14, 5 }, { 0x20, 0x20, 6 } };
+
+static void must(long number, bool holds)
+{
+	if (!holds)
+		quit(number);
+}
+
+/* 'n' or 'd', the verdict on an id of the encrypted sender, or of the plain one. */
+static char ask(bool plain, uint32_t id)
+{
+	static uint8_t open[30] = { 0x00, 0x23, 0, 0, 0, 0, 2, 0, 0, 0, 0, 0, 0, 0x0e, 2, 0, 0, 0, 0, 0, 0, 1, 0x11, 2, 2, 1 };
+	uint8_t *message = plain ? open : secret;
+
+	put_id(message, id);
+	struct gw_answer a = receive(message, plain ? sizeof open : sizeof secret);
+	return a.refusal || a.reply_length ? '?' : a.duplicate ? 'd' : 'n';
+}
+
+/* An empty table that has then heard some ids. */
+static void heard(bool plain, unsigned count, const uint32_t *ids)
+{
+	gw_open(table);
+	for (unsigned i = 0; i < count; i++)
+		ask(plain, ids[i]);
+}
+#define HEARD(plain, ...) heard(plain, sizeof((uint32_t[]){ __VA_ARGS__ }) / 4, (const uint32_t[]){ __VA_ARGS__ })
+
+/* The marks of the encrypted row, seen from outside: mark k for a duplicate k below the highest. It spoils the row. */
+static uint32_t marks(uint32_t highest)
+{
+	uint32_t set = 0;
+
+	for (uint32_t k = 1; k <= MARKS; k++)
+		if (ask(false, highest - k) == 'd')
+			set |= MARK(k);
+	return set;
+}
+
+static void bench_begin(long *stack)
+{
+	(void)stack;
+	gw_open(table);
+	for (int again = 0; again < 2; again++) {
+		struct gw_answer a = receive(X, sizeof X);
+
+		must(101 + again, a.refusal == 0 && a.duplicate == again && a.reply_length == sizeof REPLY);
+		for (size_t i = 0; i < sizeof REPLY; i++)
+			must(103, out[i] == REPLY[i]);
+	}
+	for (int i = 0; i < 6; i++)
+		must(110 + i, receive(TWO[i], 2).refusal == TWO[i][2]);
+
+	gw_open(table);
+	must(1, ask(false, 5) == 'n' && marks(5) == 0);
+	HEARD(false, 5);
+	must(2, ask(false, 5) == 'd');
+	HEARD(false, 5);
+	must(3, ask(false, 4) == 'n' && marks(5) == MARK(1));
+	HEARD(false, 20);
+	must(4, ask(false, 5) == 'n' && marks(20) == MARK(15));
+	HEARD(false, 20);
+	must(5, ask(false, 4) == 'd');
+	HEARD(true, 20);
+	must(6, ask(true, 4) == 'n' && ask(true, 4) == 'd' && ask(true, 5) == 'n');
+	HEARD(false, 4294967295);
+	must(7, ask(false, 0) == 'n' && marks(0) == MARK(1));
+	HEARD(false, 0);
+	must(8, ask(false, 2147483647) == 'n');
+	HEARD(false, 0);
+	must(9, ask(false, 2147483648) == 'd');
+	HEARD(false, 10, 9, 7);
+	must(10, ask(false, 13) == 'n' && marks(13) == (MARK(3) | MARK(4) | MARK(6)));
+	HEARD(false, 10, 9);
+	must(11, ask(false, 25) == 'n' && marks(25) == MARK(15));
+	HEARD(false, 10, 9);
+	must(12, ask(false, 26) == 'n' && marks(26) == 0);
+	quit(0);
+}

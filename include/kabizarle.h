@@ -1,0 +1,150 @@
+/* The message core of a gateway for Weave messages (format 1.3): reading, writing and framing of messages, the table that
+ * tells a message heard before from a new one, and the acknowledgement. The archive is for x86-64.
+ *
+ * Answers.   Every function gives the number of the first refusal that applies, 0 for none. A refused call leaves all that it
+ *            was lent as it was. Any bytes, numbers and table contents get an answer; nothing need be checked beforehand.
+ * Memory.    The caller owns all of it. The library has no heap and no global state, and keeps no pointer after a call.
+ *            An array is lent at its full size, and no two arrays that are lent to one call may overlap. A pointer whose
+ *            length is 0 may be NULL; no other may.
+ * Threads.   One caller at a time for one table; calls with different tables may run at once.
+ * The table. KABIZARLE_TABLE_WORDS words; all zero is the empty table. Its rows are KABIZARLE_ROW_WORDS words each.
+ * Nodes.     A node is a number, EUI[0] its most significant byte: 02 00 00 00 00 00 00 01 is 0x0200000000000001.
+ * Parts.     A start counts from the first byte that the call was given. */
+#ifndef KABIZARLE_H
+#define KABIZARLE_H
+
+#include <stdbool.h>
+#include <stddef.h>
+#include <stdint.h>
+
+#ifdef __cplusplus
+extern "C" {
+#endif
+
+/* Sizes. */
+#define KABIZARLE_ROWS 32                  /* rows of a table */
+#define KABIZARLE_ROW_WORDS 3              /* words of a row as the table holds it */
+#define KABIZARLE_TABLE_WORDS 96           /* words of a table */
+#define KABIZARLE_LONGEST 1232             /* bytes of the longest message */
+#define KABIZARLE_FRAME_BYTES 2            /* bytes of the length that stands before a message in a stream */
+#define KABIZARLE_CHECK_BYTES 20           /* bytes of the check of an encrypted message */
+#define KABIZARLE_ACKNOWLEDGEMENT_BYTES 56 /* bytes of the longest acknowledgement */
+#define KABIZARLE_FIELDS 17                /* places of a message as numbers */
+#define KABIZARLE_PART_PLACES 2            /* places of an outer reading */
+#define KABIZARLE_FRAME_PLACES 5           /* places of an unframing */
+#define KABIZARLE_ROW_PLACES 5             /* places of a row as numbers */
+
+/* Places of a message; a field that the message does not have is 0. */
+#define KABIZARLE_VERSION 0         /* 1 or 2 */
+#define KABIZARLE_ENCRYPT 1         /* encrypt type: 0 plain, 1 encrypted */
+#define KABIZARLE_FLAGS 2           /* sum of the six bits below */
+#define KABIZARLE_ID 3              /* message id */
+#define KABIZARLE_SOURCE 4          /* source node */
+#define KABIZARLE_DESTINATION 5     /* destination node; all ones is Any */
+#define KABIZARLE_KEY 6             /* key id, its type in bits 15 to 12 */
+#define KABIZARLE_KIND 7            /* message type */
+#define KABIZARLE_EXCHANGE 8        /* exchange id */
+#define KABIZARLE_PROFILE 9         /* profile id */
+#define KABIZARLE_ACKNOWLEDGED 10   /* acknowledged id */
+#define KABIZARLE_PAYLOAD_START 11  /* where the payload or the packet starts */
+#define KABIZARLE_PAYLOAD_LENGTH 12 /* how long it is */
+#define KABIZARLE_CHECK_START 13    /* where the check starts; the end of the message if there is none */
+#define KABIZARLE_CHECK_LENGTH 14   /* how long it is: 20 or 0 */
+#define KABIZARLE_VERDICT 15        /* one of the verdicts; 0 after kabizarle_read */
+#define KABIZARLE_REPLY_LENGTH 16   /* bytes of the acknowledgement, 0 for none; 0 after kabizarle_read */
+
+/* Bits of KABIZARLE_FLAGS. */
+#define KABIZARLE_TUNNELLED 1024 /* T: the message carries an IP packet */
+#define KABIZARLE_SOURCED 512    /* S: it names its source */
+#define KABIZARLE_DESTINED 256   /* D: it names its destination */
+#define KABIZARLE_INITIATOR 1    /* I: its sender opened the exchange */
+#define KABIZARLE_ACKNOWLEDGES 2 /* A: it acknowledges a message */
+#define KABIZARLE_WANTS 4        /* R: it wants to be acknowledged */
+
+/* Verdicts. */
+#define KABIZARLE_NONE 0      /* none was asked for */
+#define KABIZARLE_NEW 1       /* heard for the first time: act on it */
+#define KABIZARLE_DUPLICATE 2 /* heard before: acknowledge it again, and no more */
+
+/* Places of an outer reading. */
+#define KABIZARLE_PART_START 0  /* where the protected part starts; the end of a plain message */
+#define KABIZARLE_PART_LENGTH 1 /* how long it is, check included; 0 for a plain message */
+
+/* Places of an unframing; the last four are 0 while the message is not whole. */
+#define KABIZARLE_FRAME_WANTED 0 /* bytes still wanted, 0 if the message is whole */
+#define KABIZARLE_FRAME_START 1  /* where the message starts */
+#define KABIZARLE_FRAME_LENGTH 2 /* how long it is */
+#define KABIZARLE_REST_START 3   /* where the rest of the stream starts */
+#define KABIZARLE_REST_LENGTH 4  /* how long it is */
+
+/* Places of a row as numbers. */
+#define KABIZARLE_ROW_USED 0    /* 1 in use, 0 free */
+#define KABIZARLE_ROW_NODE 1    /* node of the sender */
+#define KABIZARLE_ROW_KEY 2     /* key id, 0 for plain messages */
+#define KABIZARLE_ROW_HIGHEST 3 /* highest id accepted */
+#define KABIZARLE_ROW_MARKS 4   /* bit k - 1 is mark k, from 1 to 15: the id k below the highest was accepted */
+
+/* Words of a row as the table holds it; other bits are not looked at, and are clear once the row changes. */
+#define KABIZARLE_NODE_WORD 0  /* the node */
+#define KABIZARLE_STATE_WORD 1 /* bit 48: in use; bits 47 to 32: key id; bits 31 to 0: highest id */
+#define KABIZARLE_MARKS_WORD 2 /* bits 14 to 0: the marks */
+
+/* Refusals. */
+#define KABIZARLE_NO_REFUSAL 0           /* the answer of a call that refuses nothing */
+#define KABIZARLE_REFUSED_TOO_LONG 1     /* longer than 1,232 bytes */
+#define KABIZARLE_REFUSED_TOO_SHORT 2    /* fewer bytes than the fields need */
+#define KABIZARLE_REFUSED_VERSION 3      /* a version other than 1 and 2 */
+#define KABIZARLE_REFUSED_RESERVED 4     /* a reserved bit of the header is set */
+#define KABIZARLE_REFUSED_OLD_TUNNEL 5   /* a tunnelled message of version 1 */
+#define KABIZARLE_REFUSED_ENCRYPT 6      /* an encrypt type other than 0 and 1 */
+#define KABIZARLE_REFUSED_KEY 7          /* encrypted, with a key type other than 1 and 2 */
+#define KABIZARLE_REFUSED_SOURCE 8       /* a source that is all zero or all ones */
+#define KABIZARLE_REFUSED_DESTINATION 9  /* a destination that is all zero */
+#define KABIZARLE_REFUSED_EXCHANGE 10    /* F is zero, or a reserved bit of the exchange header is set */
+#define KABIZARLE_REFUSED_OLD_ASKS 11    /* A or R in version 1 */
+#define KABIZARLE_REFUSED_TUNNEL 12      /* a tunnel version other than 1 */
+#define KABIZARLE_REFUSED_PACKET 13      /* a packet that is neither IPv4 nor IPv6 */
+#define KABIZARLE_REFUSED_STRAY 14       /* writing: a place that its field cannot hold, an absent field not 0, or a wrong check length */
+#define KABIZARLE_REFUSED_OWN_NODE 15    /* the own node is all zero or all ones */
+#define KABIZARLE_REFUSED_NOT_OURS 16    /* the destination is neither the own node nor Any */
+#define KABIZARLE_REFUSED_SENDER 17      /* no source in the message, and the link's node is all zero or all ones */
+#define KABIZARLE_REFUSED_CHECK 18       /* encrypted, and the check did not pass */
+#define KABIZARLE_REFUSED_NO_ROOM 19     /* the output buffer is too small */
+#define KABIZARLE_REFUSED_FULL 20        /* the name has no row, and all rows are in use */
+#define KABIZARLE_REFUSED_NO_ROW 21      /* the name to be removed has no row */
+#define KABIZARLE_REFUSED_UNWRITABLE 22  /* the acknowledgement cannot be written, for a reason other than its room */
+
+/* Says which part of a message the radio module has to open. */
+uint32_t kabizarle_read_outer(const uint8_t *bytes, size_t length, uint64_t part[KABIZARLE_PART_PLACES]);
+
+/* Reads a message into all places of `fields`. */
+uint32_t kabizarle_read(const uint8_t *bytes, size_t length, uint64_t fields[KABIZARLE_FIELDS]);
+
+/* Writes the message of places VERSION to ACKNOWLEDGED, with its payload and check; `written` gets its length. */
+uint32_t kabizarle_write(const uint64_t fields[KABIZARLE_FIELDS], const uint8_t *payload, size_t payload_length,
+                         const uint8_t *check, size_t check_length, uint8_t *out, size_t room, uint64_t *written);
+
+/* Finds the first message of a framed stream and the rest, or how many bytes are still wanted; never refuses. */
+uint32_t kabizarle_unframe(const uint8_t *stream, size_t length, uint64_t frame[KABIZARLE_FRAME_PLACES]);
+
+/* Writes a message with its length before it; `written` gets the length of both. */
+uint32_t kabizarle_frame(const uint8_t *message, size_t length, uint8_t *out, size_t room, uint64_t *written);
+
+/* Reads a message, moves its row and writes the acknowledgement that it wants, with message id `id`, to `out`. */
+uint32_t kabizarle_receive(uint64_t own, uint64_t link, bool passed, uint32_t id, const uint8_t *bytes, size_t length,
+                           uint64_t table[KABIZARLE_TABLE_WORDS], uint8_t *out, size_t room, uint64_t fields[KABIZARLE_FIELDS]);
+
+/* Frees the row of a name, which is a node and a key id. */
+uint32_t kabizarle_remove(uint64_t table[KABIZARLE_TABLE_WORDS], uint64_t node, uint16_t key);
+
+/* Rolls one row, which may be one of a table's, forward by one message id; `verdict` gets its verdict; never refuses. */
+uint32_t kabizarle_roll(uint64_t row[KABIZARLE_ROW_WORDS], uint32_t id, uint64_t *verdict);
+
+/* Shows the row at a number; past the last row it is free, and all places are 0; never refuses. */
+uint32_t kabizarle_row(const uint64_t table[KABIZARLE_TABLE_WORDS], size_t number, uint64_t row[KABIZARLE_ROW_PLACES]);
+
+#ifdef __cplusplus
+}
+#endif
+
+#endif

@@ -1,0 +1,528 @@
+/* Calls every function of the boundary with legal, wrong and extreme arguments, and checks each answer and all that was lent. It prints a
+ * line for each check that fails and exits 1, or prints how many passed. What is read ends at memory that may not be touched, and so
+ * does what is written: a byte too many ends the program. */
+#define _DEFAULT_SOURCE
+#include <kabizarle.h>
+#include <stdio.h>
+#include <string.h>
+#include <sys/mman.h>
+
+#define OWN UINT64_C(0x0200000000000001)
+#define SENDER UINT64_C(0x020000000000000e)
+#define ALL_ONES UINT64_MAX
+#define LENGTH(array) (sizeof(array) / sizeof *(array))
+
+/* The place where X and its kin have the last byte of the source node. */
+enum { NAME_AT = 13, REPLY_ID = 9, MARKS = 0x7fff };
+
+/* The worked example of a message, and its acknowledgement with message id 9. */
+static const uint8_t X[30] = { 0x00, 0x23, 5, 0, 0, 0, 2, 0, 0, 0, 0, 0, 0, 0x0e, 2, 0, 0, 0, 0, 0, 0, 1, 0x15, 2, 2, 1, 0, 0, 0, 0 };
+static const uint8_t REPLY[34] = { 0x00, 0x23, REPLY_ID, 0, 0, 0, 2, 0, 0, 0, 0, 0, 0, 1, 2, 0, 0, 0, 0, 0, 0, 0x0e, 0x12, 2, 2, 1, 0, 0, 0, 0, 5 };
+
+/* Encrypted under a session key, both nodes, I, A and R, a payload of 3 bytes; and a tunnelled packet of 5 bytes, with no node. */
+static const uint8_t SECRET[59] = { 0x10, 0x23, 5, 0, 0, 0, 2, 0, 0, 0, 0, 0, 0, 0x0e, 2, 0, 0, 0, 0, 0, 0, 1, 1, 0x20, 0x17, 7, 2, 1, 4, 3, 2, 1,
+	8, 7, 6, 5, 'a', 'b', 'c', 1, 2, 3, 4, 5, 6, 7, 8, 9, 10, 11, 12, 13, 14, 15, 16, 17, 18, 19, 20 };
+static const uint8_t TUNNEL[12] = { 0x00, 0x24, 6, 0, 0, 0, 1, 0x45, 1, 2, 3, 4 };
+
+/* All that a call can be lent, and a copy from before the call. */
+static struct lent {
+	uint64_t fields[KABIZARLE_FIELDS], table[KABIZARLE_TABLE_WORDS], part[KABIZARLE_PART_PLACES], frame[KABIZARLE_FRAME_PLACES];
+	uint64_t row[KABIZARLE_ROW_WORDS], shown[KABIZARLE_ROW_PLACES], written, verdict;
+	uint8_t out[KABIZARLE_LONGEST + KABIZARLE_FRAME_BYTES];
+} lent, kept;
+
+/* The first bytes that may not be touched, past what is read and past what is written. */
+static uint8_t *read_end, *write_end;
+
+static unsigned passed, failed;
+
+static void must(bool holds, int line, const char *what)
+{
+	if (holds) {
+		passed++;
+		return;
+	}
+	failed++;
+	printf("line %d: not so: %s\n", line, what);
+}
+#define MUST(fact) must(fact, __LINE__, #fact)
+
+/* A call that is refused by its number, and leaves all that was lent as it was. */
+#define REFUSED(number, call) \
+	(kept = lent, must((call) == (number), __LINE__, #call " is " #number), must(unchanged(), __LINE__, #call " changes nothing"))
+
+static bool unchanged(void) { return memcmp(&lent, &kept, sizeof lent) == 0; }
+
+/* Fills all that is lent with a pattern that has no two bytes of a word alike. */
+static void scatter(void)
+{
+	for (size_t i = 0; i < sizeof lent; i++)
+		((uint8_t *)&lent)[i] = (uint8_t)(37 * i + i / 251 + 1);
+}
+
+/* The same, with an empty table. */
+static void start(void)
+{
+	scatter();
+	memset(lent.table, 0, sizeof lent.table);
+}
+
+/* Room for 64 KiB that ends at memory which may not be touched: its end. */
+static uint8_t *guarded(void)
+{
+	enum { HALF = 65536 };
+	uint8_t *at = mmap(NULL, 2 * HALF, PROT_READ | PROT_WRITE, MAP_PRIVATE | MAP_ANONYMOUS, -1, 0);
+
+	if (at == MAP_FAILED || mprotect(at + HALF, HALF, PROT_NONE) != 0)
+		return NULL;
+	return at + HALF;
+}
+
+/* The bytes, copied to where they end at the end of what may be read. */
+static const uint8_t *lend(const uint8_t *bytes, size_t length) { return memcpy(read_end - length, bytes, length); }
+
+/* Receiving and writing with what is lent. */
+static uint32_t receive(const uint8_t *bytes, size_t length)
+{
+	return kabizarle_receive(OWN, 0, true, REPLY_ID, bytes, length, lent.table, lent.out, 64, lent.fields);
+}
+
+static uint32_t put(size_t payload, size_t check, size_t room)
+{
+	return kabizarle_write(lent.fields, SECRET, payload, SECRET + 39, check, lent.out, room, &lent.written);
+}
+
+/* A message that reading and receiving refuse, and outer reading too where the refusal is one of its own. */
+static void refused(uint32_t number, const uint8_t *bytes, size_t length)
+{
+	bytes = lend(bytes, length);
+	scatter();
+	REFUSED(number, kabizarle_read(bytes, length, lent.fields));
+	REFUSED(number, receive(bytes, length));
+	if (number <= KABIZARLE_REFUSED_DESTINATION)
+		REFUSED(number, kabizarle_read_outer(bytes, length, lent.part));
+}
+
+/* One byte of a message changed: the message is refused. */
+static void spoiled(uint32_t number, const uint8_t *message, size_t length, size_t at, uint8_t byte)
+{
+	uint8_t bytes[64];
+
+	memcpy(bytes, message, length);
+	bytes[at] = byte;
+	refused(number, bytes, length);
+}
+
+/* Every refusal of reading, each by its nearest legal message. */
+static void refusals_of_reading(void)
+{
+	static const uint8_t two[][3] = {
+		{ 0x00, 0x20, 2 }, { 0x00, 0x30, 3 }, { 0x01, 0x20, 4 }, { 0x00, 0x28, 4 }, { 0x00, 0x14, 5 }, { 0x20, 0x20, 6 },
+	};
+	uint8_t nodes[sizeof X];
+
+	for (size_t i = 0; i < LENGTH(two); i++)
+		refused(two[i][2], two[i], 2);
+	spoiled(KABIZARLE_REFUSED_KEY, SECRET, sizeof SECRET, 23, 0x30);
+	spoiled(KABIZARLE_REFUSED_KEY, SECRET, sizeof SECRET, 23, 0x00);
+	for (int byte = 0; byte < 256; byte += 255) {
+		memcpy(nodes, X, sizeof X);
+		memset(nodes + 6, byte, 8);
+		refused(KABIZARLE_REFUSED_SOURCE, nodes, sizeof nodes);
+	}
+	memcpy(nodes, X, sizeof X);
+	memset(nodes + 14, 0, 8);
+	refused(KABIZARLE_REFUSED_DESTINATION, nodes, sizeof nodes);
+	spoiled(KABIZARLE_REFUSED_EXCHANGE, X, sizeof X, 22, 0x05);
+	for (int bit = 8; bit < 256; bit *= 2)
+		if (bit != 16)
+			spoiled(KABIZARLE_REFUSED_EXCHANGE, X, sizeof X, 22, (uint8_t)(0x15 + bit));
+	spoiled(KABIZARLE_REFUSED_OLD_ASKS, X, sizeof X, 1, 0x13);
+	spoiled(KABIZARLE_REFUSED_TUNNEL, TUNNEL, sizeof TUNNEL, 6, 2);
+	spoiled(KABIZARLE_REFUSED_PACKET, TUNNEL, sizeof TUNNEL, 7, 0x55);
+}
+
+/* Every cut of the messages: refused below the length that its fields need, taken from there on. */
+static void cuts(void)
+{
+	for (size_t n = 0; n < sizeof X; n++)
+		refused(KABIZARLE_REFUSED_TOO_SHORT, X, n);
+	MUST(kabizarle_read(lend(X, sizeof X), sizeof X, lent.fields) == 0);
+	for (size_t n = 0; n < 8; n++)
+		refused(KABIZARLE_REFUSED_TOO_SHORT, TUNNEL, n);
+	MUST(kabizarle_read(lend(TUNNEL, 8), 8, lent.fields) == 0);
+	for (size_t n = 0; n < sizeof SECRET; n++) {
+		const uint8_t *bytes = lend(SECRET, n);
+
+		scatter();
+		if (n < 52)
+			REFUSED(2, kabizarle_read_outer(bytes, n, lent.part));
+		else
+			MUST(kabizarle_read_outer(bytes, n, lent.part) == 0 && lent.part[KABIZARLE_PART_START] == 24 && lent.part[KABIZARLE_PART_LENGTH] == n - 24);
+		if (n < 56)
+			REFUSED(2, kabizarle_read(bytes, n, lent.fields));
+		else
+			MUST(kabizarle_read(bytes, n, lent.fields) == 0 && lent.fields[KABIZARLE_PAYLOAD_LENGTH] == n - 56);
+	}
+}
+
+/* Slices of no bytes, which may be NULL. */
+static void empty_slices(void)
+{
+	scatter();
+	REFUSED(2, kabizarle_read_outer(NULL, 0, lent.part));
+	REFUSED(2, kabizarle_read(NULL, 0, lent.fields));
+	REFUSED(2, receive(NULL, 0));
+	REFUSED(2, receive(read_end, 0));
+	MUST(kabizarle_unframe(NULL, 0, lent.frame) == 0);
+	MUST(lent.frame[0] == 2 && !lent.frame[1] && !lent.frame[2] && !lent.frame[3] && !lent.frame[4]);
+	REFUSED(19, kabizarle_frame(NULL, 0, NULL, 0, &lent.written));
+	MUST(kabizarle_frame(NULL, 0, lent.out, 2, &lent.written) == 0 && lent.written == 2 && lent.out[0] == 0 && lent.out[1] == 0);
+	MUST(kabizarle_read(X, sizeof X, lent.fields) == 0);
+	REFUSED(19, kabizarle_write(lent.fields, NULL, 0, NULL, 0, NULL, 0, &lent.written));
+	MUST(kabizarle_write(lent.fields, NULL, 0, NULL, 0, lent.out, 30, &lent.written) == 0 && lent.written == 30);
+	start();
+	REFUSED(19, kabizarle_receive(OWN, 0, true, 0, X, sizeof X, lent.table, NULL, 0, lent.fields));
+	MUST(kabizarle_receive(OWN, SENDER, true, 0, TUNNEL, sizeof TUNNEL, lent.table, NULL, 0, lent.fields) == 0);
+	MUST(lent.fields[KABIZARLE_VERDICT] == KABIZARLE_NEW && lent.fields[KABIZARLE_REPLY_LENGTH] == 0);
+}
+
+/* Lengths past the longest message, up to the largest that an object can have. Of a message that is too long nothing is read; of a
+ * payload writing may look at the first byte, and of a stream unframing looks at the first two. */
+static void largest_lengths(void)
+{
+	static const size_t lengths[] = { KABIZARLE_LONGEST + 1, UINT16_MAX + (size_t)31, UINT32_MAX + (size_t)31, PTRDIFF_MAX };
+	static const uint8_t longest[KABIZARLE_LONGEST] = { 0x00, 0x20, [6] = 0x10 };
+
+	for (size_t i = 0; i < LENGTH(lengths); i++) {
+		start();
+		REFUSED(1, kabizarle_read_outer(read_end, lengths[i], lent.part));
+		REFUSED(1, kabizarle_read(read_end, lengths[i], lent.fields));
+		REFUSED(1, receive(read_end, lengths[i]));
+		REFUSED(1, kabizarle_frame(read_end, lengths[i], lent.out, sizeof lent.out, &lent.written));
+		MUST(kabizarle_read(SECRET, sizeof SECRET, lent.fields) == 0);
+		REFUSED(1, kabizarle_write(lent.fields, lend(X, 1), lengths[i], SECRET, 20, lent.out, sizeof lent.out, &lent.written));
+		REFUSED(14, kabizarle_write(lent.fields, SECRET, 3, read_end, lengths[i], lent.out, sizeof lent.out, &lent.written));
+		MUST(kabizarle_unframe(lend(X, 2), lengths[i], lent.frame) == 0);
+		MUST(lent.frame[KABIZARLE_FRAME_WANTED] == (lengths[i] < 0x2302 ? 0x2302 - lengths[i] : 0));
+	}
+	MUST(lent.frame[KABIZARLE_FRAME_LENGTH] == 0x2300 && lent.frame[KABIZARLE_REST_START] == 0x2302);
+	MUST(lent.frame[KABIZARLE_REST_LENGTH] == PTRDIFF_MAX - 0x2302);
+	MUST(kabizarle_read(lend(longest, sizeof longest), sizeof longest, lent.fields) == 0);
+	MUST(lent.fields[KABIZARLE_PAYLOAD_LENGTH] == KABIZARLE_LONGEST - 14);
+	MUST(kabizarle_write(lent.fields, longest + 14, KABIZARLE_LONGEST - 14, NULL, 0, write_end - KABIZARLE_LONGEST, PTRDIFF_MAX, &lent.written) == 0);
+	MUST(lent.written == KABIZARLE_LONGEST && memcmp(write_end - KABIZARLE_LONGEST, longest, KABIZARLE_LONGEST) == 0);
+	REFUSED(1, kabizarle_write(lent.fields, longest, KABIZARLE_LONGEST - 13, NULL, 0, lent.out, sizeof lent.out, &lent.written));
+}
+
+/* All places of the messages, as reading gives them. */
+static void places(void)
+{
+	static const uint64_t x[] = { 2, 0, 512 + 256 + 4 + 1, 5, SENDER, OWN, 0, 2, 0x0102, 0, 0, 30, 0, 30, 0, 0, 0 };
+	static const uint64_t secret[] = { 2, 1, 512 + 256 + 7, 5, SENDER, OWN, 0x2001, 7, 0x0102, 0x01020304, 0x05060708, 36, 3, 39, 20, 0, 0 };
+	static const uint64_t tunnel[] = { 2, 0, 1024, 6, 0, 0, 0, 0, 0, 0, 0, 7, 5, 12, 0, 0, 0 };
+
+	scatter();
+	MUST(kabizarle_read(lend(X, sizeof X), sizeof X, lent.fields) == 0 && memcmp(lent.fields, x, sizeof x) == 0);
+	MUST(kabizarle_read(lend(SECRET, sizeof SECRET), sizeof SECRET, lent.fields) == 0 && memcmp(lent.fields, secret, sizeof secret) == 0);
+	MUST(kabizarle_read(lend(TUNNEL, sizeof TUNNEL), sizeof TUNNEL, lent.fields) == 0 && memcmp(lent.fields, tunnel, sizeof tunnel) == 0);
+	MUST(kabizarle_read_outer(lend(X, sizeof X), sizeof X, lent.part) == 0 && lent.part[0] == 30 && lent.part[1] == 0);
+	MUST(kabizarle_read_outer(lend(SECRET, sizeof SECRET), sizeof SECRET, lent.part) == 0 && lent.part[0] == 24 && lent.part[1] == 35);
+}
+
+/* A message that is read, written and read again: the same bytes, in exactly their room and in more, and refused in less. */
+static void there_and_back(const uint8_t *message, size_t length)
+{
+	scatter();
+	MUST(kabizarle_read(message, length, lent.fields) == 0);
+	const uint8_t *payload = message + lent.fields[KABIZARLE_PAYLOAD_START], *check = message + lent.fields[KABIZARLE_CHECK_START];
+	size_t payload_length = lent.fields[KABIZARLE_PAYLOAD_LENGTH], check_length = lent.fields[KABIZARLE_CHECK_LENGTH];
+
+	for (size_t p = KABIZARLE_PAYLOAD_START; p < KABIZARLE_FIELDS; p++)
+		lent.fields[p] = ALL_ONES; /* writing does not look at these */
+	for (size_t room = 0; room < length; room++)
+		REFUSED(19, kabizarle_write(lent.fields, payload, payload_length, check, check_length, lent.out, room, &lent.written));
+	for (size_t more = 0; more < 20; more++) {
+		uint8_t *out = write_end - length - more;
+
+		memset(out, 0xa5, length + more);
+		MUST(kabizarle_write(lent.fields, payload, payload_length, check, check_length, out, length + more, &lent.written) == 0);
+		MUST(lent.written == length && memcmp(out, message, length) == 0);
+		MUST(more == 0 || (out[length] == 0xa5 && memcmp(out + length, out + length + 1, more - 1) == 0));
+	}
+}
+
+/* Every refusal of writing but 1 and 19, each one place away from a legal value. */
+static void refusals_of_writing(void)
+{
+	static const struct { uint32_t refusal, place; uint64_t value; } cases[] = {
+		{ 3, KABIZARLE_VERSION, 0 }, { 3, KABIZARLE_VERSION, 3 }, { 3, KABIZARLE_VERSION, 255 }, { 6, KABIZARLE_ENCRYPT, 2 }, { 6, KABIZARLE_ENCRYPT, 255 },
+		{ 5, KABIZARLE_FLAGS, 1024 }, { 7, KABIZARLE_KEY, 0x0001 }, { 7, KABIZARLE_KEY, 0xffff }, { 8, KABIZARLE_SOURCE, 0 },
+		{ 8, KABIZARLE_SOURCE, ALL_ONES }, { 9, KABIZARLE_DESTINATION, 0 }, { 11, KABIZARLE_FLAGS, 512 + 256 + 2 }, { 11, KABIZARLE_FLAGS, 512 + 256 + 4 },
+		{ 14, KABIZARLE_FLAGS, 256 }, { 14, KABIZARLE_FLAGS, 512 }, { 14, KABIZARLE_ACKNOWLEDGED, 1 }, { 14, KABIZARLE_ENCRYPT, 0 },
+	};
+
+	for (size_t i = 0; i < LENGTH(cases); i++) {
+		scatter();
+		MUST(kabizarle_read(SECRET, sizeof SECRET, lent.fields) == 0);
+		lent.fields[KABIZARLE_VERSION] = 1;
+		lent.fields[KABIZARLE_FLAGS] = 512 + 256 + 1;
+		lent.fields[KABIZARLE_ACKNOWLEDGED] = 0;
+		MUST(put(3, 20, sizeof lent.out) == 0);
+		lent.fields[cases[i].place] = cases[i].value;
+		REFUSED(cases[i].refusal, put(3, 20, sizeof lent.out));
+	}
+	MUST(kabizarle_read(SECRET, sizeof SECRET, lent.fields) == 0);
+	REFUSED(14, put(3, 19, sizeof lent.out));
+	REFUSED(14, put(3, 0, sizeof lent.out));
+	MUST(kabizarle_read(TUNNEL, sizeof TUNNEL, lent.fields) == 0);
+	REFUSED(2, put(0, 0, sizeof lent.out));
+	REFUSED(13, put(3, 0, sizeof lent.out)); /* its first byte is 0x10 */
+	for (size_t p = KABIZARLE_SOURCE; p <= KABIZARLE_ACKNOWLEDGED; p++) {
+		MUST(kabizarle_read(TUNNEL, sizeof TUNNEL, lent.fields) == 0);
+		lent.fields[p] = 0x2001; /* a tunnelled message with no node has none of these fields */
+		REFUSED(14, kabizarle_write(lent.fields, TUNNEL + 7, 5, NULL, 0, lent.out, sizeof lent.out, &lent.written));
+	}
+	MUST(kabizarle_read(TUNNEL, sizeof TUNNEL, lent.fields) == 0);
+	for (uint64_t bit = KABIZARLE_INITIATOR; bit <= KABIZARLE_WANTS; bit *= 2) {
+		lent.fields[KABIZARLE_FLAGS] = KABIZARLE_TUNNELLED + bit;
+		REFUSED(14, kabizarle_write(lent.fields, TUNNEL + 7, 5, NULL, 0, lent.out, sizeof lent.out, &lent.written));
+	}
+}
+
+/* Places with numbers that their fields cannot hold are refused before all else; the largest that they can hold are written. */
+static void wide_places(void)
+{
+	static const struct { size_t place; uint64_t most; } widths[] = {
+		{ KABIZARLE_VERSION, UINT8_MAX }, { KABIZARLE_ENCRYPT, UINT8_MAX }, { KABIZARLE_KIND, UINT8_MAX }, { KABIZARLE_KEY, UINT16_MAX },
+		{ KABIZARLE_EXCHANGE, UINT16_MAX }, { KABIZARLE_ID, UINT32_MAX }, { KABIZARLE_PROFILE, UINT32_MAX }, { KABIZARLE_ACKNOWLEDGED, UINT32_MAX },
+	};
+	uint64_t legal[KABIZARLE_FIELDS];
+
+	scatter();
+	MUST(kabizarle_read(SECRET, sizeof SECRET, legal) == 0);
+	for (size_t i = 0; i < LENGTH(widths); i++) {
+		const uint64_t wide[] = { widths[i].most + 1, widths[i].most + 1 + legal[widths[i].place], (UINT64_C(1) << 63) + legal[widths[i].place], ALL_ONES };
+
+		for (size_t k = 0; k < LENGTH(wide); k++) {
+			memcpy(lent.fields, legal, sizeof legal);
+			lent.fields[widths[i].place] = wide[k];
+			REFUSED(14, put(3, 20, sizeof lent.out));
+			lent.fields[widths[i].place == KABIZARLE_VERSION ? KABIZARLE_ENCRYPT : KABIZARLE_VERSION] = 3;
+			REFUSED(14, put(3, 20, sizeof lent.out));
+		}
+	}
+	for (unsigned bit = 0; bit < 64; bit++) {
+		memcpy(lent.fields, legal, sizeof legal);
+		lent.fields[KABIZARLE_FLAGS] |= UINT64_C(1) << bit;
+		if (!(0x707 >> bit & 1) || bit > 10)
+			REFUSED(14, put(3, 20, sizeof lent.out));
+	}
+	memcpy(lent.fields, legal, sizeof legal);
+	for (size_t i = 2; i < LENGTH(widths); i++)
+		lent.fields[widths[i].place] = widths[i].place == KABIZARLE_KEY ? 0x2fff : widths[i].most;
+	lent.fields[KABIZARLE_SOURCE] = lent.fields[KABIZARLE_DESTINATION] = ALL_ONES - 1;
+	memcpy(legal, lent.fields, sizeof legal);
+	MUST(put(3, 20, 59) == 0 && lent.written == 59);
+	MUST(kabizarle_read(lent.out, 59, lent.fields) == 0 && memcmp(lent.fields, legal, sizeof legal) == 0);
+}
+
+/* A framed message, its rooms, and every cut of the stream. */
+static void frames(void)
+{
+	static const uint8_t zeros[KABIZARLE_LONGEST];
+	const size_t whole = sizeof X + KABIZARLE_FRAME_BYTES;
+
+	scatter();
+	for (size_t room = 0; room < whole; room++)
+		REFUSED(19, kabizarle_frame(X, sizeof X, lent.out, room, &lent.written));
+	MUST(kabizarle_frame(lend(X, sizeof X), sizeof X, write_end - whole, whole, &lent.written) == 0 && lent.written == whole);
+	const uint8_t *stream = write_end - whole;
+
+	for (size_t n = 0; n <= whole; n++) {
+		const uint8_t *bytes = lend(stream, n);
+
+		MUST(kabizarle_unframe(bytes, n, lent.frame) == 0);
+		MUST(lent.frame[KABIZARLE_FRAME_WANTED] == (n < 2 ? 2 - n : whole - n));
+		MUST(n == whole || (!lent.frame[1] && !lent.frame[2] && !lent.frame[3] && !lent.frame[4]));
+	}
+	MUST(lent.frame[KABIZARLE_FRAME_START] == 2 && lent.frame[KABIZARLE_FRAME_LENGTH] == sizeof X && memcmp(stream + 2, X, sizeof X) == 0);
+	MUST(lent.frame[KABIZARLE_REST_START] == whole && lent.frame[KABIZARLE_REST_LENGTH] == 0);
+	MUST(kabizarle_unframe(lend((const uint8_t[]){ 0xff, 0xff, 0 }, 3), 3, lent.frame) == 0 && lent.frame[KABIZARLE_FRAME_WANTED] == 65534);
+	MUST(kabizarle_unframe(lend((const uint8_t[]){ 0, 0, 7 }, 3), 3, lent.frame) == 0 && lent.frame[KABIZARLE_FRAME_LENGTH] == 0);
+	MUST(lent.frame[KABIZARLE_REST_START] == 2 && lent.frame[KABIZARLE_REST_LENGTH] == 1);
+	MUST(kabizarle_frame(zeros, sizeof zeros, lent.out, sizeof lent.out, &lent.written) == 0 && lent.written == sizeof lent.out);
+	REFUSED(19, kabizarle_frame(zeros, sizeof zeros, lent.out, sizeof lent.out - 1, &lent.written));
+}
+
+/* The worked example: new, then duplicate, each acknowledged; and a refusal of receiving for each reason of its own. */
+static void receiving(void)
+{
+	uint8_t other[sizeof X];
+
+	start();
+	MUST(receive(lend(X, sizeof X), sizeof X) == 0 && lent.fields[KABIZARLE_VERDICT] == KABIZARLE_NEW && lent.fields[KABIZARLE_ID] == 5);
+	MUST(lent.fields[KABIZARLE_REPLY_LENGTH] == sizeof REPLY && memcmp(lent.out, REPLY, sizeof REPLY) == 0);
+	MUST(lent.table[0] == SENDER && lent.table[1] == (UINT64_C(1) << 48) + 5 && lent.table[2] == 0);
+	kept = lent;
+	uint8_t *out = write_end - sizeof REPLY;
+	MUST(kabizarle_receive(OWN, 0, false, REPLY_ID, X, sizeof X, lent.table, out, sizeof REPLY, lent.fields) == 0);
+	MUST(lent.fields[KABIZARLE_VERDICT] == KABIZARLE_DUPLICATE && memcmp(out, REPLY, sizeof REPLY) == 0);
+	MUST(memcmp(lent.table, kept.table, sizeof lent.table) == 0);
+	for (size_t room = 0; room < sizeof REPLY; room++)
+		REFUSED(19, kabizarle_receive(OWN, 0, true, REPLY_ID, X, sizeof X, lent.table, lent.out, room, lent.fields));
+	for (size_t room = 0; room < KABIZARLE_ACKNOWLEDGEMENT_BYTES; room++)
+		REFUSED(19, kabizarle_receive(OWN, 0, true, 0, SECRET, sizeof SECRET, lent.table, lent.out, room, lent.fields));
+	REFUSED(15, kabizarle_receive(0, 0, true, 0, X, sizeof X, lent.table, lent.out, 64, lent.fields));
+	REFUSED(15, kabizarle_receive(ALL_ONES, 0, true, 0, NULL, 0, lent.table, lent.out, 64, lent.fields));
+	REFUSED(16, kabizarle_receive(OWN + 1, 0, true, 0, X, sizeof X, lent.table, lent.out, 64, lent.fields));
+	REFUSED(17, kabizarle_receive(OWN, 0, true, 0, TUNNEL, sizeof TUNNEL, lent.table, lent.out, 64, lent.fields));
+	REFUSED(17, kabizarle_receive(OWN, ALL_ONES, true, 0, TUNNEL, sizeof TUNNEL, lent.table, lent.out, 64, lent.fields));
+	REFUSED(18, kabizarle_receive(OWN, 0, false, 0, SECRET, sizeof SECRET, lent.table, lent.out, 0, lent.fields));
+	MUST(kabizarle_receive(OWN, SENDER, false, 0, TUNNEL, sizeof TUNNEL, lent.table, NULL, 0, lent.fields) == 0 && (uint32_t)lent.table[1] == 6);
+	MUST(receive(SECRET, sizeof SECRET) == 0 && lent.fields[KABIZARLE_REPLY_LENGTH] == KABIZARLE_ACKNOWLEDGEMENT_BYTES && lent.table[3] == SENDER);
+	memcpy(other, X, sizeof X);
+	memset(other + 14, 0xff, 8);
+	MUST(receive(other, sizeof other) == 0 && lent.fields[KABIZARLE_DESTINATION] == ALL_ONES);
+}
+
+/* A table of all 32 rows: the names it holds are served, and another has no row until one is freed. */
+static void full_table(void)
+{
+	uint8_t bytes[sizeof X];
+
+	start();
+	memcpy(bytes, X, sizeof X);
+	for (uint8_t i = 0; i < KABIZARLE_ROWS; i++) {
+		bytes[NAME_AT] = (uint8_t)(0x20 + i);
+		MUST(receive(bytes, sizeof bytes) == 0 && lent.fields[KABIZARLE_VERDICT] == KABIZARLE_NEW);
+		MUST(kabizarle_row(lent.table, i, lent.shown) == 0);
+		MUST(memcmp(lent.shown, (const uint64_t[]){ 1, SENDER - 0x0e + 0x20 + i, 0, 5, 0 }, sizeof lent.shown) == 0);
+	}
+	REFUSED(20, receive(X, sizeof X));
+	REFUSED(20, receive(SECRET, sizeof SECRET));
+	REFUSED(20, kabizarle_receive(OWN, SENDER, true, 0, TUNNEL, sizeof TUNNEL, lent.table, NULL, 0, lent.fields));
+	REFUSED(19, kabizarle_receive(OWN, 0, true, 0, X, sizeof X, lent.table, lent.out, 33, lent.fields));
+	kept = lent;
+	MUST(receive(bytes, sizeof bytes) == 0 && lent.fields[KABIZARLE_VERDICT] == KABIZARLE_DUPLICATE);
+	MUST(memcmp(lent.table, kept.table, sizeof lent.table) == 0);
+	REFUSED(21, kabizarle_remove(lent.table, SENDER, 0));
+	REFUSED(21, kabizarle_remove(lent.table, SENDER + 0x19, 1));
+	kept = lent;
+	MUST(kabizarle_remove(lent.table, SENDER + 0x19, 0) == 0);
+	memset(&kept.table[3 * 7], 0, 3 * sizeof *kept.table);
+	MUST(unchanged());
+	MUST(receive(X, sizeof X) == 0 && lent.table[3 * 7] == SENDER);
+}
+
+/* Only rows in use are found; bits that belong to no field are not looked at, and are clear once the row is put. */
+static void odd_tables(void)
+{
+	start();
+	REFUSED(21, kabizarle_remove(lent.table, 0, 0));
+	for (size_t i = 0; i < KABIZARLE_ROWS; i++)
+		memcpy(&lent.table[3 * i], (const uint64_t[]){ SENDER, ~(UINT64_C(1) << 48), ALL_ONES }, 24);
+	REFUSED(21, kabizarle_remove(lent.table, SENDER, UINT16_MAX));
+	kept = lent;
+	MUST(receive(X, sizeof X) == 0 && lent.table[0] == SENDER && lent.table[1] == (UINT64_C(1) << 48) + 5 && lent.table[2] == 0);
+	MUST(memcmp(lent.table + 3, kept.table + 3, sizeof lent.table - 24) == 0);
+	memset(lent.table, 0xff, sizeof lent.table);
+	REFUSED(20, receive(X, sizeof X));
+	kept = lent;
+	MUST(kabizarle_remove(lent.table, ALL_ONES, UINT16_MAX) == 0);
+	memset(kept.table, 0, 24);
+	MUST(unchanged());
+}
+
+/* Rows as numbers; past the last row all places are zero, also where the place of the row would wrap. */
+static void rows(void)
+{
+	static const size_t past[] = { KABIZARLE_ROWS, KABIZARLE_ROWS + 1, KABIZARLE_TABLE_WORDS, SIZE_MAX / 24 + 1, SIZE_MAX / 3 + 1, SIZE_MAX };
+	static const uint64_t zeros[KABIZARLE_ROW_PLACES];
+
+	for (size_t i = 0; i < LENGTH(past); i++) {
+		scatter();
+		memset(lent.table, 0xff, sizeof lent.table);
+		kept = lent;
+		memset(kept.shown, 0, sizeof kept.shown);
+		MUST(kabizarle_row(lent.table, past[i], lent.shown) == 0 && memcmp(lent.shown, zeros, sizeof zeros) == 0);
+		MUST(unchanged());
+	}
+	MUST(kabizarle_row(lent.table, KABIZARLE_ROWS - 1, lent.shown) == 0);
+	lent.shown[KABIZARLE_ROW_MARKS] &= MARKS; /* the other bits stand for no mark */
+	MUST(memcmp(lent.shown, (const uint64_t[]){ 1, ALL_ONES, UINT16_MAX, UINT32_MAX, MARKS }, sizeof lent.shown) == 0);
+	lent.table[1] = ~(UINT64_C(1) << 48);
+	MUST(kabizarle_row(lent.table, 0, lent.shown) == 0 && lent.shown[KABIZARLE_ROW_USED] == 0);
+}
+
+/* One row: words before, id, verdict, words after. The node stays, and so do the three words of a duplicate. */
+static void rolled(uint64_t state, uint64_t marks, uint32_t id, uint64_t verdict, uint64_t state_after, uint64_t marks_after)
+{
+	scatter();
+	memcpy(&lent.table[3 * 30], (const uint64_t[]){ SENDER, state, marks }, 24);
+	kept = lent;
+	MUST(kabizarle_roll(&lent.table[3 * 30], id, &lent.verdict) == 0 && lent.verdict == verdict);
+	kept.verdict = verdict;
+	memcpy(&kept.table[3 * 30], (const uint64_t[]){ SENDER, state_after, marks_after }, 24);
+	MUST(unchanged());
+}
+
+/* The ledger of examples, a free row, the plain row's reach, and bits that stand for nothing. */
+static void rolling(void)
+{
+	const uint64_t plain = UINT64_C(1) << 48, in_use = plain + (UINT64_C(0x2001) << 32), key = UINT64_C(0x2001) << 32, odd = UINT64_C(0xfffe) << 48;
+	const uint64_t no_mark = ~(uint64_t)MARKS;
+	enum { NEW = KABIZARLE_NEW, AGAIN = KABIZARLE_DUPLICATE };
+
+	rolled(key, 0, 5, NEW, in_use + 5, 0);
+	rolled(in_use + 5, 0, 5, AGAIN, in_use + 5, 0);
+	rolled(in_use + 5, 0, 4, NEW, in_use + 5, 1);
+	rolled(in_use + 20, 0, 5, NEW, in_use + 20, 1 << 14);
+	rolled(in_use + 20, 0, 4, AGAIN, in_use + 20, 0);
+	rolled(plain + 20, 0, 4, NEW, plain + 4, 0);
+	rolled(in_use + UINT32_MAX, 0, 0, NEW, in_use, 1);
+	rolled(in_use, 0, 2147483647, NEW, in_use + 2147483647, 0);
+	rolled(in_use, 0, 2147483648, AGAIN, in_use, 0);
+	rolled(in_use + 10, 5, 13, NEW, in_use + 13, 4 + 8 + 32);
+	rolled(in_use + 10, 1, 25, NEW, in_use + 25, 1 << 14);
+	rolled(in_use + 10, 1, 26, NEW, in_use + 26, 0);
+	rolled(plain + 20, 1 << 14, 5, AGAIN, plain + 20, 1 << 14);
+	rolled(odd + key + 7, ALL_ONES, 5, NEW, in_use + 5, 0);
+	rolled(odd + in_use + 20, no_mark, 20, AGAIN, odd + in_use + 20, no_mark);
+	rolled(odd + in_use + 20, no_mark, 4, AGAIN, odd + in_use + 20, no_mark);
+	rolled(odd + in_use + 20, no_mark, 21, NEW, in_use + 21, 1);
+	rolled(odd + in_use + 20, no_mark, 19, NEW, in_use + 20, 1);
+	rolled(odd + plain + 20, no_mark, 4, NEW, plain + 4, 0);
+	rolled(odd + in_use + 20, ALL_ONES, 21, NEW, in_use + 21, MARKS);
+}
+
+int main(void)
+{
+	read_end = guarded();
+	write_end = guarded();
+	if (!read_end || !write_end) {
+		printf("no memory\n");
+		return 1;
+	}
+	refusals_of_reading();
+	cuts();
+	empty_slices();
+	largest_lengths();
+	places();
+	there_and_back(X, sizeof X);
+	there_and_back(REPLY, sizeof REPLY);
+	there_and_back(SECRET, sizeof SECRET);
+	there_and_back(TUNNEL, sizeof TUNNEL);
+	refusals_of_writing();
+	wide_places();
+	frames();
+	receiving();
+	full_table();
+	odd_tables();
+	rows();
+	rolling();
+	printf("%u checks passed\n", passed);
+	if (failed)
+		printf("%u checks failed\n", failed);
+	return failed ? 1 : 0;
+}
