@@ -5,7 +5,7 @@ use Rattle.reception.specs.declared.answers.Received.{Received}
 use Rattle.reception.specs.declared.answers.Received.the-variants as Received
 use Rattle.reception.specs.declared.answers.Removed.{Removed}
 use Rattle.reception.specs.declared.answers.Removed.the-variants as Removed
-use Rattle.gateway.specs.Fields.{fieldsOf}
+use Rattle.places.specs.Fields.{fieldsOf}
 
 -- the refusal number of receiving, 0 for none
 abbrev pub receivedNumber : Received → ℕ

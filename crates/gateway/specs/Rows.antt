@@ -1,5 +1,5 @@
 -- Rows: the number of a verdict, and what rolling and reading a row put into the lent places. Assumes nothing.
-use Prim.Native.Nat.{ℕ}
+use Prim.Native.Nat.{ℕ, _%_, _^_}
 use mathlib.Core.List.{List, [], _∷_}
 use Rattle.window.specs.declared.Row.{Row}
 use Rattle.window.specs.declared.Rolled.{Rolled}
@@ -21,6 +21,6 @@ wordsAfter Verdict.Duplicate row old = old
 abbrev pub rolledWords : Rolled → List ℕ → List ℕ
 rolledWords rolled old = wordsAfter (rolled .verdict) (rolled .row) old
 
--- a row: whether it is in use, its name, its highest id and its marks
+-- a row: whether it is in use, its name, its highest id and its marks; a bit that stands for no mark is clear
 unfoldable pub rowPlaces : Row → List ℕ
-rowPlaces row = bit (row .used) ∷ row .node ∷ row .key ∷ row .highest ∷ row .marks ∷ []
+rowPlaces row = bit (row .used) ∷ row .node ∷ row .key ∷ row .highest ∷ (row .marks % 2 ^ 15) ∷ []

@@ -4,10 +4,8 @@ ghost use lib.ListN.{length};
 ghost use Rattle.reception.specs.Receiving.{beside, receiveOf, receiveTable, receiveBuffer};
 ghost use Rattle.reception.specs.Removing.{removeOf, removeTable};
 ghost use Rattle.gateway.specs.Receiving.{receivedNumber, receivedAfter, removedNumber};
-use crate::fields;
-use crate::places;
-use crate::places::FIELDS;
-use crate::places::TABLE_WORDS;
+use places::FIELDS;
+use places::TABLE_WORDS;
 use reception::Received;
 use reception::Removed;
 
@@ -32,11 +30,11 @@ pub extern "C" fn kabizarle_receive(
     let answer = reception::receive(own, link, passed, id, bytes, table, out);
     match answer {
         Received::New(m, reply) => {
-            fields::store(m, bytes.len(), places::NEW, reply, fields);
+            places::store(m, bytes.len(), places::NEW, reply, fields);
             places::NO_REFUSAL
         }
         Received::Duplicate(m, reply) => {
-            fields::store(m, bytes.len(), places::DUPLICATE, reply, fields);
+            places::store(m, bytes.len(), places::DUPLICATE, reply, fields);
             places::NO_REFUSAL
         }
         Received::Refused(refusal) => refusal.number as u32,

@@ -4,12 +4,14 @@ ghost use lib.ListN.{length};
 ghost use Rattle.window.specs.Rows.{rolledOf};
 ghost use Rattle.reception.specs.Table.{bit, rowOf, withRow, rowAt};
 ghost use Rattle.gateway.specs.Rows.{verdictNumber, rolledWords, rowPlaces};
-use crate::places;
-use crate::places::ROW_PLACES;
-use crate::places::ROW_WORDS;
-use crate::places::TABLE_WORDS;
+use places::ROW_PLACES;
+use places::ROW_WORDS;
+use places::TABLE_WORDS;
 use window::Row;
 use window::Verdict;
+
+// The least number above all marks.
+const ABOVE_MARKS: u64 = 0x8000;
 
 // Puts a row into its three words.
 fn put(words: &mut [u64; ROW_WORDS], row: Row)
@@ -55,7 +57,7 @@ fn use_bit(used: bool) -> u64
     if used { 1 } else { 0 }
 }
 
-// Puts the fields of a row into their places.
+// Puts the fields of a row into their places; a bit that stands for no mark is clear.
 fn store_row(read: Row, row: &mut [u64])
     requires { ⌜ length (now row) ≡ 5 ⌝ }
     ensures { λ _. ⌜ now (row .exit) ≡ rowPlaces read ⌝ }
@@ -64,7 +66,7 @@ fn store_row(read: Row, row: &mut [u64])
     row[places::ROW_NODE] = read.node;
     row[places::ROW_KEY] = read.key as u64;
     row[places::ROW_HIGHEST] = read.highest as u64;
-    row[places::ROW_MARKS] = read.marks as u64;
+    row[places::ROW_MARKS] = read.marks as u64 % ABOVE_MARKS;
 }
 
 // The fields of the row at a number; past the last row they are all zero. Never refuses.

@@ -8,7 +8,7 @@ ghost use Rattle.message.specs.Order.{first};
 ghost use Rattle.message.specs.Refusals.{badSource};
 ghost use Rattle.writer.specs.Acknowledgement.{acknowledgementOf};
 ghost use Rattle.reception.specs.Table.{rows, findOf};
-ghost use Rattle.reception.specs.Receiving.{beside, senderOf, notOurs, unchecked, deliveryOrder, answerTo, received, admitOf, fullOf, deliverOf, receiveOf, tableAfter, tableBy, receiveTable, bufferBy, receiveBuffer};
+ghost use Rattle.reception.specs.Receiving.{beside, senderOf, notOurs, unchecked, deliveryOrder, answerTo, admitOf, fullOf, deliverOf, receiveOf, tableBy, receiveTable, bufferBy, receiveBuffer};
 use crate::acknowledgement;
 use crate::answers::Received;
 use crate::search;
@@ -20,7 +20,6 @@ use message::Reading;
 use message::Refusal;
 use message::Writing;
 use message::layout;
-use window::Rolled;
 use window::Row;
 use window::Verdict;
 
@@ -76,28 +75,6 @@ fn delivery_refusal(own: u64, link: u64, sender: u64, passed: bool, m: Message) 
     0
 }
 
-// Puts the row of a new message; a duplicate changes nothing.
-fn settle(
-    table: &mut [u64; WORDS],
-    place: usize,
-    rolled: Rolled,
-    m: Message,
-    length: usize,
-) -> Received
-    requires { ⌜ place < rows ⌝ }
-    ensures result { λ r. ⌜ r ≡ received 0 (rolled .verdict) m length ⌝ }
-    ensures table { λ r. ⌜ now (table .exit) ≡ tableAfter r (now (table .entry)) place (rolled .row) ⌝ }
-{
-    let verdict = rolled.verdict;
-    match verdict {
-        Verdict::New => {
-            table::put_row(table, place, rolled.row);
-            Received::New(m, length)
-        }
-        Verdict::Duplicate => Received::Duplicate(m, length),
-    }
-}
-
 // The answer where all rows are in use: 22 and 19, then 20.
 fn full(planned: Writing) -> Received
     ensures { λ r. ⌜ r ≡ fullOf planned ⌝ }
@@ -109,7 +86,7 @@ fn full(planned: Writing) -> Received
 }
 
 // A message whose name has the row at a number: 22 and 19 where an acknowledgement is wanted; then it
-// is written, and the row is rolled.
+// is written, and the row is rolled: a new message puts it, a duplicate changes nothing.
 fn admit_known(
     found: usize,
     own: u64,
@@ -129,7 +106,15 @@ fn admit_known(
         Writing::Refused(refusal) => Received::Refused(refusal),
         Writing::Written(length) => {
             let row = search::row_named(table, found, sender, m.key);
-            settle(table, found, row.rolled(m.id), m, length)
+            let rolled = row.rolled(m.id);
+            let verdict = rolled.verdict;
+            match verdict {
+                Verdict::New => {
+                    table::put_row(table, found, rolled.row);
+                    Received::New(m, length)
+                }
+                Verdict::Duplicate => Received::Duplicate(m, length),
+            }
         }
     }
 }

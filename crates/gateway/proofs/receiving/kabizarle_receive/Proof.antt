@@ -1,20 +1,12 @@
--- A message with a verdict was read, and is stored with it; a refusal stores nothing. Assumes nothing.
+-- A message is stored with its verdict; a refusal stores nothing. Assumes nothing.
 use mathlib.Core.Path.{sym, ap, _∙_}
 use lib.ListN.{length}
 use Rattle.reception.specs.declared.answers.Received.{Received}
 use Rattle.message.proofs.Logic.{so}
-use Rattle.reader.proofs.Clear.{fits}
-use Rattle.reception.proofs.WasRead.{new-was-read, duplicate-was-read}
 use Rattle.gateway.specs.Receiving.{receivedNumber, receivedAfter}
 use borrow.Author.Needs.{needs}
 use Rattle.gateway.proofs.receiving.kabizarle_receive.Statement.{statement}
 use Rattle.gateway.proofs.receiving.kabizarle_receive.Tie as tie
-
-store-requires : tie.Need-store-requires
-store-requires c κs = (fits _ _ (new-was-read _ _ _ _ _ (so (c .before .before .before .before .before .before .receive .ensures .0) (c .before .before .answer .given .1))), search needs)
-
-store-requires-2 : tie.Need-store-requires-2
-store-requires-2 c κs = (fits _ _ (duplicate-was-read _ _ _ _ _ (so (c .before .before .before .before .before .before .receive .ensures .0) (c .before .before .answer2 .given .1))), search needs)
 
 returns : tie.Need-returns
 returns c =
@@ -43,9 +35,9 @@ kabizarle-receive-spec =
     (tie.spec
     (λ c κs. search needs)
     (λ c. search needs)
-    store-requires
+    (λ c κs. search needs)
     (λ c. search needs)
-    store-requires-2
+    (λ c κs. search needs)
     (λ c. search needs)
     (λ c. search needs)
     (λ c. search needs)

@@ -2,7 +2,7 @@
 use native.Mathlib.Omega.{arith}
 use lib.ListN.{length-set}
 use Rattle.gateway.specs.Rows.{rowPlaces}
-use Rattle.gateway.proofs.Spelled.{stored5}
+use Rattle.places.proofs.Spelled.{stored5}
 use borrow.Author.Needs.{needs}
 use Rattle.gateway.proofs.rows.store_row.Statement.{statement}
 use Rattle.gateway.proofs.rows.store_row.Tie as tie

@@ -1,10 +1,13 @@
--- A refused acknowledgement is the answer; else it stands in the buffer, and the row found is rolled. Assumes nothing.
-use mathlib.Core.Path.{refl, sym, _∙_}
+-- A refused acknowledgement is the answer; else it stands in the buffer, and the row found is rolled: by the verdict it is put, or not. Assumes nothing.
+use mathlib.Core.Path.{refl, sym, ap, _∙_}
 use lib.ListN.{length}
 use Rattle.writer.specs.Acknowledgement.{acknowledgementOf}
+use Rattle.window.specs.declared.Verdict.{Verdict}
 use Rattle.message.proofs.Logic.{so}
+use Rattle.reception.specs.Receiving.{received}
 use Rattle.reception.proofs.Orders.{unanswered, is-planned, settles}
 use Rattle.reception.proofs.Places.{rolls, is-named}
+use Rattle.reception.proofs.Words.{put-within}
 use borrow.Author.Needs.{needs}
 use Rattle.reception.proofs.receiving.admit_known.Statement.{statement}
 use Rattle.reception.proofs.receiving.admit_known.Tie as tie
@@ -12,20 +15,28 @@ use Rattle.reception.proofs.receiving.admit_known.Tie as tie
 row-named-requires : tie.Need-row-named-requires
 row-named-requires c κs = (c .before .before .before .before .before .before .before .before .before .pre .1, is-named _ _ _ _ (c .before .before .before .before .before .before .before .before .before .pre .0) (c .before .before .before .before .before .before .before .before .before .pre .1))
 
-settle-requires : tie.Need-settle-requires
-settle-requires c κs = c .before .before .before .before .before .before .before .before .before .before .before .before .pre .1
-
 returns : tie.Need-returns
 returns c = unanswered _ _ _ _ _ _ _ _ _ (c .before .before .before .before .before .acknowledge .ensures .0) (c .before .answer .given .1) (c .before .before .before .before .before .acknowledge .ensures .1) refl
 
 returns-2 : tie.Need-returns-2
 returns-2 c =
+    let a = c .before .before .before .before .before .before .before .before .before .before .before .before .before .before .before .args in
+    let pre = c .before .before .before .before .before .before .before .before .before .before .before .before .before .before .before .pre in
+    let value = acknowledgementOf (a .own) (a .sender) (a .id) (a .m) in
+    let p = is-planned value (length (a .out .now)) (a .sender) (a .m) (a .table .now) _ (so (c .before .before .before .before .before .before .before .before .before .before .before .before .acknowledge .ensures .0) (c .before .before .before .before .before .before .before .before .answer2 .given .1)) in
+    let r = rolls _ _ _ _ _ _ _ (pre .0) (pre .1) (c .before .before .before .before .before .row-named .ensures) (c .before .before .before .before .rolled .ensures) in
+    settles value (a .sender) (a .m) (a .table .now) (a .out .now) _ p _ _ _ _ _ (r .0) (r .1) (pre .1) (sym (ap (λ (v : Verdict). received 0 v (a .m) (c .before .before .before .before .before .before .before .before .answer2 .given .0 .0)) (c .before .before .enum-told .given .1)))
+    (c .put-row .ensures ∙ put-within _ _ _ (pre .1)) (c .before .before .before .before .before .before .before .before .before .before .before .before .acknowledge .ensures .1)
+
+returns-3 : tie.Need-returns-3
+returns-3 c =
     let a = c .before .before .before .before .before .before .before .before .before .before .before .before .before .args in
     let pre = c .before .before .before .before .before .before .before .before .before .before .before .before .before .pre in
     let value = acknowledgementOf (a .own) (a .sender) (a .id) (a .m) in
     let p = is-planned value (length (a .out .now)) (a .sender) (a .m) (a .table .now) _ (so (c .before .before .before .before .before .before .before .before .before .before .acknowledge .ensures .0) (c .before .before .before .before .before .before .answer2 .given .1)) in
-    let r = rolls _ _ _ _ _ _ _ (pre .0) (pre .1) (c .before .before .before .row-named .ensures) (c .before .rolled .ensures) in
-    settles value (a .sender) (a .m) (a .table .now) (a .out .now) _ p _ _ _ _ _ (r .0) (r .1) (pre .1) (c .settle .ensures .0) (c .settle .ensures .1) (c .before .before .before .before .before .before .before .before .before .before .acknowledge .ensures .1)
+    let r = rolls _ _ _ _ _ _ _ (pre .0) (pre .1) (c .before .before .before .row-named .ensures) (c .before .before .rolled .ensures) in
+    settles value (a .sender) (a .m) (a .table .now) (a .out .now) _ p _ _ _ _ _ (r .0) (r .1) (pre .1) (sym (ap (λ (v : Verdict). received 0 v (a .m) (c .before .before .before .before .before .before .answer2 .given .0 .0)) (c .enum-told2 .given .1))) refl
+    (c .before .before .before .before .before .before .before .before .before .before .acknowledge .ensures .1)
 
 pub admit-known-spec : {M : Type 1} → statement M
 admit-known-spec =
@@ -36,8 +47,12 @@ admit-known-spec =
     (λ c. search needs)
     row-named-requires
     (λ c κs. search needs)
-    settle-requires
+    (λ c. search needs)
+    (λ c κs. search needs)
+    (λ c. search needs)
     (λ c. search needs)
     returns
     (λ c. search needs)
-    returns-2)
+    returns-2
+    (λ c. search needs)
+    returns-3)

@@ -1,0 +1,40 @@
+-- What the test of the places says, bound by bound. Assumes nothing.
+use Prim.Native.Nat.{ℕ}
+use mathlib.Core.Path.{_≡_, refl}
+use mathlib.Core.Bool.{Bool, true, false, _&&_}
+use mathlib.Core.List.{List}
+use borrow.Author.Tests.{ltb-true}
+use Rattle.message.proofs.Logic.{clash}
+use Rattle.gateway_format.specs.Values.{fits, Fitting}
+
+-- both hold, taken apart and put together
+pub and-true : (a b : Bool) → (a && b) ≡ true → (a ≡ true) × (b ≡ true)
+and-true true b e = (refl, e)
+and-true false b e = clash false e refl
+
+pub true-and : (a b : Bool) → a ≡ true → b ≡ true → (a && b) ≡ true
+true-and true b p q = q
+true-and false b p q = p
+
+-- every place is within its bound
+pub fitting : (fields : List ℕ) → fits fields ≡ true → Fitting fields
+unfolding fits
+fitting fields e =
+    let h = and-true _ _ e in
+    let h₁ = and-true _ _ (h .0) in
+    let h₂ = and-true _ _ (h₁ .0) in
+    let h₃ = and-true _ _ (h₂ .0) in
+    let h₄ = and-true _ _ (h₃ .0) in
+    let h₅ = and-true _ _ (h₄ .0) in
+    let h₆ = and-true _ _ (h₅ .0) in
+    let h₇ = and-true _ _ (h₆ .0) in
+    record {
+      version = ltb-true _ _ (h₇ .0);
+      encrypt = ltb-true _ _ (h₇ .1);
+      id = ltb-true _ _ (h₅ .1);
+      key = ltb-true _ _ (h₄ .1);
+      kind = ltb-true _ _ (h₃ .1);
+      exchange = ltb-true _ _ (h₂ .1);
+      profile = ltb-true _ _ (h₁ .1);
+      acknowledged = ltb-true _ _ (h .1);
+    }

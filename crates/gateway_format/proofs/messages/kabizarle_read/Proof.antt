@@ -1,0 +1,34 @@
+-- A value that was taken is stored; a refusal stores nothing. Assumes nothing.
+use mathlib.Core.Path.{sym, ap, _∙_}
+use lib.ListN.{length}
+use Rattle.message.specs.Answers.{readingNumber}
+use Rattle.message.specs.declared.answers.Reading.{Reading}
+use Rattle.message.proofs.Logic.{so}
+use Rattle.gateway_format.specs.Messages.{readAfter}
+use borrow.Author.Needs.{needs}
+use Rattle.gateway_format.proofs.messages.kabizarle_read.Statement.{statement}
+use Rattle.gateway_format.proofs.messages.kabizarle_read.Tie as tie
+
+returns : tie.Need-returns
+returns c =
+    let a = c .before .before .before .before .before .before .before .args in
+    let e = so (c .before .before .before .before .before .read .ensures) (c .before .before .before .reading .given .1) in
+    (sym (ap readingNumber e), c .store .ensures ∙ sym (ap (λ (r : Reading). readAfter r (length (a .bytes .now)) (a .fields .now)) e))
+
+returns-2 : tie.Need-returns-2
+returns-2 c =
+    let a = c .before .before .before .before .before .before .args in
+    let e = so (c .before .before .before .before .read .ensures) (c .before .before .reading2 .given .1) in
+    (sym (ap readingNumber e), sym (ap (λ (r : Reading). readAfter r (length (a .bytes .now)) (a .fields .now)) e))
+
+pub kabizarle-read-spec : {M : Type 1} → statement M
+kabizarle-read-spec =
+    tie.close
+    (tie.spec
+    (λ c κs. search needs)
+    (λ c. search needs)
+    (λ c κs. search needs)
+    (λ c. search needs)
+    (λ c. search needs)
+    returns
+    returns-2)

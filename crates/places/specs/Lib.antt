@@ -1,0 +1,2 @@
+-- What the contracts of `places` cite.
+pub mod Fields
