@@ -1,10 +1,10 @@
 -- The steps in which the code reads are the order of reading and the value of the definitions. Assumes nothing.
-use Prim.Native.Nat.{ℕ, _+_, _≤_}
+use Prim.Native.Nat.{ℕ, _+_, _≤_, _<_}
 use mathlib.Core.Path.{_≡_, refl, sym, ap, _∙_}
 use mathlib.Core.Bool.{Bool, true, false, _&&_}
 use mathlib.Core.List.{List, [], _∷_, _++_}
 use native.Mathlib.Omega.{arith}
-use borrow.Author.Tests.{ltb-false}
+use borrow.Author.Tests.{lt-ltb, le-ltb}
 use lib.Dec.{ltb}
 use lib.ListN.{length}
 use Rattle.wire.specs.Bytes.{part, little}
@@ -67,15 +67,20 @@ module _ (bytes : List ℕ) (m : Message) (x end : ℕ) (e : x ≡ little (part 
   unfolding exchangeOrder
   to-room r h = last (ap badExchange (sym e) ∙ b) asks-is (room-is ∙ h)
 
-  pub exchange-short : (bit x 1 && ltb (length bytes) end) ≡ true → exchangeOf bytes m ≡ Refused (refusal 2)
+  exchange-short : (bit x 1 && ltb (length bytes) end) ≡ true → exchangeOf bytes m ≡ Refused (refusal 2)
   unfolding exchangeOf
   exchange-short r = ap (λ (k : ℕ). reading k (exchanged m bytes (bodyOf m))) (to-room true r)
 
-  pub exchange-taken : (bit x 1 && ltb (length bytes) end) ≡ false → exchangeOf bytes m ≡ Taken (exchanged m bytes (bodyOf m))
+  exchange-taken : (bit x 1 && ltb (length bytes) end) ≡ false → exchangeOf bytes m ≡ Taken (exchanged m bytes (bodyOf m))
   unfolding exchangeOf
   exchange-taken r = ap (λ (k : ℕ). reading k (exchanged m bytes (bodyOf m))) (to-room false r)
 
--- the exchange fields are there
-pub exchange-fits : (a : Bool) (at check n end : ℕ) → at + 8 + check ≤ n → end ≡ at + 8 + 4 + check → (a && ltb n end) ≡ false → at + 8 + only a 4 ≤ n
-exchange-fits true at check n end h e f = let g : end ≤ n = ltb-false _ _ f in omega arith
-exchange-fits false at check n end h e f = omega arith
+  -- without A; with A and no room for its bytes; with A and room
+  pub exchange-bare : bit x 1 ≡ false → exchangeOf bytes m ≡ Taken (exchanged m bytes (bodyOf m))
+  exchange-bare h = exchange-taken (ap (λ (a : Bool). a && ltb (length bytes) end) h)
+
+  pub exchange-lacks : bit x 1 ≡ true → length bytes < end → exchangeOf bytes m ≡ Refused (refusal 2)
+  exchange-lacks h l = exchange-short (ap (λ (a : Bool). a && ltb (length bytes) end) h ∙ lt-ltb _ _ l)
+
+  pub exchange-whole : bit x 1 ≡ true → end ≤ length bytes → exchangeOf bytes m ≡ Taken (exchanged m bytes (bodyOf m))
+  exchange-whole h l = exchange-taken (ap (λ (a : Bool). a && ltb (length bytes) end) h ∙ le-ltb _ _ l)

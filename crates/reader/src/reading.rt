@@ -74,8 +74,11 @@ fn read_exchange(bytes: &[u8], m: Message) -> Reading
     if message::old_asks(m.version, acknowledges, x / layout::R % 2 == 1) {
         return refused(Refusal::OLD_ASKS);
     }
+    if !acknowledges {
+        return Reading::Taken(with_exchange(m, bytes, at, x));
+    }
     let end = at + layout::ACKNOWLEDGED_AT + layout::ACKNOWLEDGED + message::check_length(m);
-    if acknowledges & (bytes.len() < end) {
+    if bytes.len() < end {
         return refused(Refusal::TOO_SHORT);
     }
     Reading::Taken(with_exchange(m, bytes, at, x))
