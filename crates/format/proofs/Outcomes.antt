@@ -28,6 +28,9 @@ use Rattle.reader.proofs.payload as payload
 use Rattle.reader.proofs.check as check
 use Rattle.writer.proofs.would_write as would
 use Rattle.writer.proofs.write as write
+use Rattle.writer.proofs.would_acknowledge as would-acknowledge
+use Rattle.writer.proofs.acknowledge as acknowledge
+use Rattle.writer.specs.Acknowledgement.{acknowledgementOf, acknowledgementBytes}
 use Rattle.stream.proofs.unframe as unframe
 use Rattle.stream.proofs.framed_message as message
 use Rattle.stream.proofs.framed_rest as rest
@@ -63,6 +66,17 @@ module _ {M : Type 1} (𝓤 : URA M) (H : Heap 𝓤) (A : Atoms 𝓤) (at-mem : 
       → let allows : Writing → AtExit write.ended κs → SProp 𝓤 = λ v e. write.clauses 𝓤 H A at-mem run κs (m, (p, (c, (out, tt)))) .ensures tt v e in
       ent 𝓤 (conj 𝓤 (allows r x) (allows s y)) (fact 𝓤 ((r ≡ s) × (now (x .1 .1 .1 .0) ≡ now (y .1 .1 .1 .0))))
   one-write κs m p c out r s x y = both 𝓤 _ _ _ (λ e f. (e .0 ∙ sym (f .0), e .1 ∙ ap (λ (v : Writing). bufferAfter v (bytesOf m (now p) (now c)) (now out)) (e .0 ∙ sym (f .0)) ∙ sym (f .1)))
+
+  pub one-would-acknowledge : (κs : Lfts 0) (own sender id : ℕ) (m : Message) (room : ℕ) (r s : Writing) (x y : AtExit would-acknowledge.ended κs)
+      → let allows : Writing → AtExit would-acknowledge.ended κs → SProp 𝓤 = λ v e. would-acknowledge.clauses 𝓤 H A at-mem run κs (own, (sender, (id, (m, (room, tt))))) .ensures tt v e in
+      ent 𝓤 (conj 𝓤 (allows r x) (allows s y)) (fact 𝓤 (r ≡ s))
+  one-would-acknowledge κs own sender id m room r s x y = both 𝓤 _ _ _ (λ e f. e ∙ sym f)
+
+  pub one-acknowledge : (κs : Lfts 1) (own sender id : ℕ) (m : Message) (out : RefT (List ℕ)) (r s : Writing) (x y : AtExit acknowledge.ended κs)
+      → let allows : Writing → AtExit acknowledge.ended κs → SProp 𝓤 = λ v e. acknowledge.clauses 𝓤 H A at-mem run κs (own, (sender, (id, (m, (out, tt))))) .ensures tt v e in
+      ent 𝓤 (conj 𝓤 (allows r x) (allows s y)) (fact 𝓤 ((r ≡ s) × (now (x .1 .1 .1 .1 .0) ≡ now (y .1 .1 .1 .1 .0))))
+  one-acknowledge κs own sender id m out r s x y =
+      both 𝓤 _ _ _ (λ e f. (e .0 ∙ sym (f .0), e .1 ∙ ap (λ (v : Writing). bufferAfter v (acknowledgementBytes (acknowledgementOf own sender id m)) (now out)) (e .0 ∙ sym (f .0)) ∙ sym (f .1)))
 
   pub one-unframe : (κs : Lfts 1) (stream : RefT (List ℕ)) (r s : Unframed) (x y : AtExit unframe.ended κs)
       → let allows : Unframed → AtExit unframe.ended κs → SProp 𝓤 = λ v e. unframe.clauses 𝓤 H A at-mem run κs (stream, tt) .ensures tt v e in

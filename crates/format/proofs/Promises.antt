@@ -1,7 +1,7 @@
 -- What the message format promises, each as a theorem of its own. The laws behind them are in the other files of this folder. Assumes nothing.
 
 -- Only one outcome fits each public contract.
-pub use Rattle.format.proofs.Outcomes.{one-read, one-read-outer, one-payload, one-check, one-would-write, one-write, one-unframe, one-framed-message, one-framed-rest, one-frame}
+pub use Rattle.format.proofs.Outcomes.{one-read, one-read-outer, one-payload, one-check, one-would-write, one-write, one-would-acknowledge, one-acknowledge, one-unframe, one-framed-message, one-framed-rest, one-frame}
 use Prim.Native.Nat.{ℕ, zero, suc, _+_, _-_, _≤_, _<_}
 use mathlib.Core.Path.{_≡_, refl, sym, ap, ap₂, _∙_}
 use mathlib.Core.Bool.{Bool, true, false, cond}

@@ -1,6 +1,7 @@
 // The Weave message format: a message as a value, reading, outer reading, writing, and the framing of
 // a stream, under one name. `read` gives the value or the refusal, `payload` and `check` the two
-// parts as slices of the caller's bytes; `write` is its mirror. Nothing here knows of rows or
+// parts as slices of the caller's bytes; `write` is its mirror, and `acknowledge` writes the standalone
+// acknowledgement of a message. Nothing here knows of rows or
 // verdicts. The laws of all of it are in `proofs/Promises.antt`.
 pub use message::Message;
 pub use message::OuterReading;
@@ -16,5 +17,7 @@ pub use stream::frame;
 pub use stream::framed_message;
 pub use stream::framed_rest;
 pub use stream::unframe;
+pub use writer::acknowledge;
+pub use writer::would_acknowledge;
 pub use writer::would_write;
 pub use writer::write;

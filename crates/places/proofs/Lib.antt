@@ -1,3 +1,4 @@
 -- The laws that belong to no one function.
 pub mod Promises
+pub mod Outcomes
 pub mod Spelled

@@ -1,4 +1,7 @@
 -- What the places promise: the parts of a message are where they say. Assumes nothing.
+
+-- Only one outcome fits `store`.
+pub use Rattle.places.proofs.Outcomes.{one-store}
 use Prim.Native.Nat.{ℕ, _+_, _-_}
 use mathlib.Core.Path.{_≡_, sym, ap, _∙_}
 use mathlib.Core.List.{List}

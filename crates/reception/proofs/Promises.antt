@@ -4,8 +4,10 @@
 pub use Rattle.reception.proofs.Words.{same-row, other-row, other-word, length-put}
 -- 20 is said exactly when the name has no row and all rows are in use.
 pub use Rattle.reception.proofs.Places.{full-says, full-when}
--- Only one outcome fits `receive`, and one `remove`.
-pub use Rattle.reception.proofs.Outcomes.{one-receipt, one-removal}
+-- Only one outcome fits `receive`, and one `remove`, `row_from` and `state_of`.
+pub use Rattle.reception.proofs.Outcomes.{one-receipt, one-removal, one-row-from, one-state-of}
+-- A verdict is given only to a message that reading takes.
+pub use Rattle.reception.proofs.WasRead.{new-was-read, duplicate-was-read}
 use Prim.Native.Nat.{ℕ, _+_, _<_, _*_}
 use mathlib.Core.Path.{_≡_, refl, sym, ap, ap₂, subst}
 use mathlib.Core.Logic.{_⊎_, ⊎-elim}
