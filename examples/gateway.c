@@ -1,5 +1,5 @@
 /* Lists a framed stream: ./gateway [FILE] < STREAM
- * To build it: cc -I include examples/gateway.c "$(./archive)" -o gateway
+ * To build it on x86-64: cc -I include examples/gateway.c "$(./archive)" -o gateway
  *
  * It prints what ./list prints: a line for each message, with its ordinal, the verdict, and the message id or the number of the
  * refusal, and then how many bytes are left over. The acknowledgements, each framed, go to FILE if it is given. The exit status
