@@ -29,34 +29,37 @@ extern "C" {
 #define KABIZARLE_FRAME_BYTES 2            /* bytes of the length that stands before a message in a stream */
 #define KABIZARLE_CHECK_BYTES 20           /* bytes of the check of an encrypted message */
 #define KABIZARLE_ACKNOWLEDGEMENT_BYTES 56 /* bytes of the longest acknowledgement */
-#define KABIZARLE_FIELDS 17                /* places of a message as numbers */
+#define KABIZARLE_FIELDS 16                /* places of a message as numbers */
 #define KABIZARLE_PART_PLACES 2            /* places of an outer reading */
 #define KABIZARLE_FRAME_PLACES 5           /* places of an unframing */
 #define KABIZARLE_ROW_PLACES 5             /* places of a row as numbers */
 
 /* Places of a message; a field that the message does not have is 0. */
-#define KABIZARLE_VERSION 0         /* 1 or 2 */
-#define KABIZARLE_ENCRYPT 1         /* encrypt type: 0 plain, 1 encrypted */
-#define KABIZARLE_FLAGS 2           /* sum of the six bits below */
-#define KABIZARLE_ID 3              /* message id */
-#define KABIZARLE_SOURCE 4          /* source node */
-#define KABIZARLE_DESTINATION 5     /* destination node; all ones is Any */
-#define KABIZARLE_KEY 6             /* key id, its type in bits 15 to 12 */
-#define KABIZARLE_KIND 7            /* message type */
-#define KABIZARLE_EXCHANGE 8        /* exchange id */
-#define KABIZARLE_PROFILE 9         /* profile id */
-#define KABIZARLE_ACKNOWLEDGED 10   /* acknowledged id */
-#define KABIZARLE_PAYLOAD_START 11  /* where the payload or the packet starts */
-#define KABIZARLE_PAYLOAD_LENGTH 12 /* how long it is */
-#define KABIZARLE_CHECK_START 13    /* where the check starts; the end of the message if there is none */
-#define KABIZARLE_CHECK_LENGTH 14   /* how long it is: 20 or 0 */
-#define KABIZARLE_VERDICT 15        /* one of the verdicts; 0 after kabizarle_read */
-#define KABIZARLE_REPLY_LENGTH 16   /* bytes of the acknowledgement, 0 for none; 0 after kabizarle_read */
+#define KABIZARLE_HEADER 0          /* the header: VERSION times the version, and the bits below */
+#define KABIZARLE_FLAGS 1           /* sum of the flags below */
+#define KABIZARLE_ID 2              /* message id */
+#define KABIZARLE_SOURCE 3          /* source node */
+#define KABIZARLE_DESTINATION 4     /* destination node; all ones is Any */
+#define KABIZARLE_KEY 5             /* key id, its type in bits 15 to 12 */
+#define KABIZARLE_KIND 6            /* message type */
+#define KABIZARLE_EXCHANGE 7        /* exchange id */
+#define KABIZARLE_PROFILE 8         /* profile id */
+#define KABIZARLE_ACKNOWLEDGED 9    /* acknowledged id */
+#define KABIZARLE_PAYLOAD_START 10  /* where the payload or the packet starts */
+#define KABIZARLE_PAYLOAD_LENGTH 11 /* how long it is */
+#define KABIZARLE_CHECK_START 12    /* where the check starts; the end of the message if there is none */
+#define KABIZARLE_CHECK_LENGTH 13   /* how long it is: 20 or 0 */
+#define KABIZARLE_VERDICT 14        /* one of the verdicts; 0 after kabizarle_read */
+#define KABIZARLE_REPLY_LENGTH 15   /* bytes of the acknowledgement, 0 for none; 0 after kabizarle_read */
 
-/* Bits of KABIZARLE_FLAGS. */
-#define KABIZARLE_TUNNELLED 1024 /* T: the message carries an IP packet */
-#define KABIZARLE_SOURCED 512    /* S: it names its source */
-#define KABIZARLE_DESTINED 256   /* D: it names its destination */
+/* The header, as the wire has it: fields[KABIZARLE_HEADER] / KABIZARLE_VERSION is the version, 1 or 2. */
+#define KABIZARLE_VERSION 4096   /* what the version is multiplied by */
+#define KABIZARLE_TUNNELLED 1024 /* bit T: the message carries an IP packet */
+#define KABIZARLE_SOURCED 512    /* bit S: it names its source */
+#define KABIZARLE_DESTINED 256   /* bit D: it names its destination */
+#define KABIZARLE_ENCRYPTED 16   /* encrypt type 1: it has a key id and a check */
+
+/* Flags of the exchange header. */
 #define KABIZARLE_INITIATOR 1    /* I: its sender opened the exchange */
 #define KABIZARLE_ACKNOWLEDGES 2 /* A: it acknowledges a message */
 #define KABIZARLE_WANTS 4        /* R: it wants to be acknowledged */
@@ -120,7 +123,7 @@ uint32_t kabizarle_read_outer(const uint8_t *bytes, size_t length, uint64_t part
 /* Reads a message into all places of `fields`. */
 uint32_t kabizarle_read(const uint8_t *bytes, size_t length, uint64_t fields[KABIZARLE_FIELDS]);
 
-/* Writes the message of places VERSION to ACKNOWLEDGED, with its payload and check; `written` gets its length. */
+/* Writes the message of places HEADER to ACKNOWLEDGED, with its payload and check; `written` gets its length. */
 uint32_t kabizarle_write(const uint64_t fields[KABIZARLE_FIELDS], const uint8_t *payload, size_t payload_length,
                          const uint8_t *check, size_t check_length, uint8_t *out, size_t room, uint64_t *written);
 

@@ -218,9 +218,9 @@ static void largest_lengths(void)
 /* All places of the messages, as reading gives them. */
 static void places(void)
 {
-	static const uint64_t x[] = { 2, 0, 512 + 256 + 4 + 1, 5, SENDER, OWN, 0, 2, 0x0102, 0, 0, 30, 0, 30, 0, 0, 0 };
-	static const uint64_t secret[] = { 2, 1, 512 + 256 + 7, 5, SENDER, OWN, 0x2001, 7, 0x0102, 0x01020304, 0x05060708, 36, 3, 39, 20, 0, 0 };
-	static const uint64_t tunnel[] = { 2, 0, 1024, 6, 0, 0, 0, 0, 0, 0, 0, 7, 5, 12, 0, 0, 0 };
+	static const uint64_t x[] = { 0x2300, 4 + 1, 5, SENDER, OWN, 0, 2, 0x0102, 0, 0, 30, 0, 30, 0, 0, 0 };
+	static const uint64_t secret[] = { 0x2310, 7, 5, SENDER, OWN, 0x2001, 7, 0x0102, 0x01020304, 0x05060708, 36, 3, 39, 20, 0, 0 };
+	static const uint64_t tunnel[] = { 0x2400, 0, 6, 0, 0, 0, 0, 0, 0, 0, 7, 5, 12, 0, 0, 0 };
 
 	scatter();
 	MUST(kabizarle_read(lend(X, sizeof X), sizeof X, lent.fields) == 0 && memcmp(lent.fields, x, sizeof x) == 0);
@@ -256,17 +256,17 @@ static void there_and_back(const uint8_t *message, size_t length)
 static void refusals_of_writing(void)
 {
 	static const struct { uint32_t refusal, place; uint64_t value; } cases[] = {
-		{ 3, KABIZARLE_VERSION, 0 }, { 3, KABIZARLE_VERSION, 3 }, { 3, KABIZARLE_VERSION, 255 }, { 6, KABIZARLE_ENCRYPT, 2 }, { 6, KABIZARLE_ENCRYPT, 255 },
-		{ 5, KABIZARLE_FLAGS, 1024 }, { 7, KABIZARLE_KEY, 0x0001 }, { 7, KABIZARLE_KEY, 0xffff }, { 8, KABIZARLE_SOURCE, 0 },
-		{ 8, KABIZARLE_SOURCE, ALL_ONES }, { 9, KABIZARLE_DESTINATION, 0 }, { 11, KABIZARLE_FLAGS, 512 + 256 + 2 }, { 11, KABIZARLE_FLAGS, 512 + 256 + 4 },
-		{ 14, KABIZARLE_FLAGS, 256 }, { 14, KABIZARLE_FLAGS, 512 }, { 14, KABIZARLE_ACKNOWLEDGED, 1 }, { 14, KABIZARLE_ENCRYPT, 0 },
+		{ 3, KABIZARLE_HEADER, 0x0310 }, { 3, KABIZARLE_HEADER, 0x3310 }, { 3, KABIZARLE_HEADER, 0xf310 }, { 6, KABIZARLE_HEADER, 0x1320 },
+		{ 6, KABIZARLE_HEADER, 0x13f0 }, { 5, KABIZARLE_HEADER, 0x1710 }, { 7, KABIZARLE_KEY, 0x0001 }, { 7, KABIZARLE_KEY, 0xffff }, { 8, KABIZARLE_SOURCE, 0 },
+		{ 8, KABIZARLE_SOURCE, ALL_ONES }, { 9, KABIZARLE_DESTINATION, 0 }, { 11, KABIZARLE_FLAGS, 2 }, { 11, KABIZARLE_FLAGS, 4 },
+		{ 14, KABIZARLE_HEADER, 0x1110 }, { 14, KABIZARLE_HEADER, 0x1210 }, { 14, KABIZARLE_ACKNOWLEDGED, 1 }, { 14, KABIZARLE_HEADER, 0x1300 },
 	};
 
 	for (size_t i = 0; i < LENGTH(cases); i++) {
 		scatter();
 		MUST(kabizarle_read(SECRET, sizeof SECRET, lent.fields) == 0);
-		lent.fields[KABIZARLE_VERSION] = 1;
-		lent.fields[KABIZARLE_FLAGS] = 512 + 256 + 1;
+		lent.fields[KABIZARLE_HEADER] = KABIZARLE_VERSION + KABIZARLE_SOURCED + KABIZARLE_DESTINED + KABIZARLE_ENCRYPTED;
+		lent.fields[KABIZARLE_FLAGS] = KABIZARLE_INITIATOR;
 		lent.fields[KABIZARLE_ACKNOWLEDGED] = 0;
 		MUST(put(3, 20, sizeof lent.out) == 0);
 		lent.fields[cases[i].place] = cases[i].value;
@@ -285,7 +285,7 @@ static void refusals_of_writing(void)
 	}
 	MUST(kabizarle_read(TUNNEL, sizeof TUNNEL, lent.fields) == 0);
 	for (uint64_t bit = KABIZARLE_INITIATOR; bit <= KABIZARLE_WANTS; bit *= 2) {
-		lent.fields[KABIZARLE_FLAGS] = KABIZARLE_TUNNELLED + bit;
+		lent.fields[KABIZARLE_FLAGS] = bit;
 		REFUSED(14, kabizarle_write(lent.fields, TUNNEL + 7, 5, NULL, 0, lent.out, sizeof lent.out, &lent.written));
 	}
 }
@@ -294,7 +294,7 @@ static void refusals_of_writing(void)
 static void wide_places(void)
 {
 	static const struct { size_t place; uint64_t most; } widths[] = {
-		{ KABIZARLE_VERSION, UINT8_MAX }, { KABIZARLE_ENCRYPT, UINT8_MAX }, { KABIZARLE_KIND, UINT8_MAX }, { KABIZARLE_KEY, UINT16_MAX },
+		{ KABIZARLE_HEADER, UINT16_MAX }, { KABIZARLE_FLAGS, 7 }, { KABIZARLE_KIND, UINT8_MAX }, { KABIZARLE_KEY, UINT16_MAX },
 		{ KABIZARLE_EXCHANGE, UINT16_MAX }, { KABIZARLE_ID, UINT32_MAX }, { KABIZARLE_PROFILE, UINT32_MAX }, { KABIZARLE_ACKNOWLEDGED, UINT32_MAX },
 	};
 	uint64_t legal[KABIZARLE_FIELDS];
@@ -308,14 +308,18 @@ static void wide_places(void)
 			memcpy(lent.fields, legal, sizeof legal);
 			lent.fields[widths[i].place] = wide[k];
 			REFUSED(14, put(3, 20, sizeof lent.out));
-			lent.fields[widths[i].place == KABIZARLE_VERSION ? KABIZARLE_ENCRYPT : KABIZARLE_VERSION] = 3;
+			lent.fields[widths[i].place == KABIZARLE_HEADER ? KABIZARLE_SOURCE : KABIZARLE_HEADER] = 0; /* 8, or 3 */
 			REFUSED(14, put(3, 20, sizeof lent.out));
 		}
 	}
 	for (unsigned bit = 0; bit < 64; bit++) {
 		memcpy(lent.fields, legal, sizeof legal);
 		lent.fields[KABIZARLE_FLAGS] |= UINT64_C(1) << bit;
-		if (!(0x707 >> bit & 1) || bit > 10)
+		if (bit > 2)
+			REFUSED(14, put(3, 20, sizeof lent.out));
+		memcpy(lent.fields, legal, sizeof legal);
+		lent.fields[KABIZARLE_HEADER] |= UINT64_C(1) << bit;
+		if (bit < 4 || bit == 11 || bit > 15) /* no field has these bits */
 			REFUSED(14, put(3, 20, sizeof lent.out));
 	}
 	memcpy(lent.fields, legal, sizeof legal);

@@ -1,6 +1,6 @@
--- The two parts of bytes that were taken. Assumes nothing.
-use Prim.Native.Nat.{_+_, _-_, _≤_}
-use mathlib.Core.Path.{_≡_, ap, _∙_}
+-- The two parts of bytes that were taken, and their header. Assumes nothing.
+use Prim.Native.Nat.{_+_, _-_, _≤_, _<_}
+use mathlib.Core.Path.{_≡_, sym, ap, subst, _∙_}
 use mathlib.Core.Bool.{Bool}
 use mathlib.Core.List.{List}
 use Prim.Native.Nat.{ℕ}
@@ -13,7 +13,11 @@ use Rattle.reader.specs.Reading.{readOf, partOf, payloadOf, checkOf}
 use Rattle.message.specs.declared.value.Message.{Message}
 use Rattle.message.specs.declared.answers.Reading.{Reading}
 use Rattle.message.specs.declared.answers.Reading.the-variants.{Taken}
-use Rattle.reader.proofs.Clear.{fits}
+use Rattle.wire.specs.Bytes.{little, front}
+use Rattle.wire.proofs.Fronts.{front-part}
+use Rattle.message.specs.Value.{header, headerOf, valueAt, messageOf}
+use Rattle.reader.proofs.Clear.{taken, fits}
+use Rattle.format.proofs.HeaderBack.{header-back}
 
 module _ (bytes : List ℕ) (m : Message) (e : readOf bytes ≡ Taken m) where
   pub payload-is : payloadOf bytes (readOf bytes) ≡ take (length bytes - checkLength m - headLength m) (drop (headLength m) bytes)
@@ -34,3 +38,11 @@ module _ (bytes : List ℕ) (m : Message) (e : readOf bytes ≡ Taken m) where
 
   pub check-length : length (checkOf bytes (readOf bytes)) ≡ checkLength m
   check-length = ap length check-is ∙ length-drop (length bytes - checkLength m) bytes ∙ (let h = fits bytes m e in omega arith)
+
+  -- the header h at the front of the bytes is that of the value
+  pub header-is : (h : ℕ) → h ≡ little (front 2 bytes) → h < 65536 → h ≡ headerOf m
+  unfolding messageOf valueAt
+  header-is h g l =
+      let c = taken bytes m e in
+      let s : h ≡ header bytes = g ∙ ap little (front-part 2 bytes (c .1 .outer .two)) in
+      s ∙ sym (header-back (header bytes) (subst (λ (n : ℕ). n < 65536) s l) (c .1 .outer .reserved)) ∙ ap headerOf (c .0)

@@ -14,11 +14,11 @@ use Rattle.reception.proofs.WasRead.{new-was-read, duplicate-was-read}
 use Rattle.places.specs.Fields.{fieldsOf}
 use Rattle.places.proofs.Promises.{payload-there, check-there}
 
--- the payload or the packet is where places 11 and 12 say, and the check where places 13 and 14 say
+-- the payload or the packet is where places 10 and 11 say, and the check where places 12 and 13 say
 abbrev pub PartsThere : List ℕ → List ℕ → Type 0
 PartsThere bytes fields =
-    (take (getD fields 12 0) (drop (getD fields 11 0) bytes) ≡ payloadOf bytes (readOf bytes))
-    × (take (getD fields 14 0) (drop (getD fields 13 0) bytes) ≡ checkOf bytes (readOf bytes))
+    (take (getD fields 11 0) (drop (getD fields 10 0) bytes) ≡ payloadOf bytes (readOf bytes))
+    × (take (getD fields 13 0) (drop (getD fields 12 0) bytes) ≡ checkOf bytes (readOf bytes))
 
 module _ (b : Beside) (bytes t : List ℕ) (m : Message) (reply : ℕ) where
   pub new-parts : receiveOf b bytes t ≡ Received.New m reply → PartsThere bytes (fieldsOf m (length bytes) 1 reply)

@@ -30,11 +30,13 @@ pub extern "C" fn kabizarle_receive(
     let answer = reception::receive(own, link, passed, id, bytes, table, out);
     match answer {
         Received::New(m, reply) => {
-            places::store(m, bytes.len(), places::NEW, reply, fields);
+            let header = wire::get16(bytes);
+            places::store(m, header, bytes.len(), places::NEW, reply, fields);
             places::NO_REFUSAL
         }
         Received::Duplicate(m, reply) => {
-            places::store(m, bytes.len(), places::DUPLICATE, reply, fields);
+            let header = wire::get16(bytes);
+            places::store(m, header, bytes.len(), places::DUPLICATE, reply, fields);
             places::NO_REFUSAL
         }
         Received::Refused(refusal) => refusal.number as u32,

@@ -1,11 +1,13 @@
 -- What the test of the places says, bound by bound. Assumes nothing.
-use Prim.Native.Nat.{ℕ}
+use Prim.Native.Nat.{ℕ, _^_}
 use mathlib.Core.Path.{_≡_, refl}
 use mathlib.Core.Bool.{Bool, true, false, _&&_}
 use mathlib.Core.List.{List}
 use borrow.Author.Tests.{ltb-true}
+use lib.Dec.{ltb}
+use lib.ListN.{getD}
 use Rattle.message.proofs.Logic.{clash}
-use Rattle.gateway_format.specs.Values.{fits, Fitting}
+use Rattle.gateway_format.specs.Values.{cleanHeader, fits, Fitting}
 
 -- both hold, taken apart and put together
 pub and-true : (a b : Bool) → (a && b) ≡ true → (a ≡ true) × (b ≡ true)
@@ -25,12 +27,8 @@ fitting fields e =
     let h₂ = and-true _ _ (h₁ .0) in
     let h₃ = and-true _ _ (h₂ .0) in
     let h₄ = and-true _ _ (h₃ .0) in
-    let h₅ = and-true _ _ (h₄ .0) in
-    let h₆ = and-true _ _ (h₅ .0) in
-    let h₇ = and-true _ _ (h₆ .0) in
+    let h₅ = and-true (cleanHeader (getD fields 0 0) && ltb (getD fields 1 0) 8) (ltb (getD fields 2 0) (2 ^ 32)) (h₄ .0) in
     record {
-      version = ltb-true _ _ (h₇ .0);
-      encrypt = ltb-true _ _ (h₇ .1);
       id = ltb-true _ _ (h₅ .1);
       key = ltb-true _ _ (h₄ .1);
       kind = ltb-true _ _ (h₃ .1);

@@ -2,35 +2,37 @@
 
 -- Only one outcome fits each exported function.
 pub use Rattle.gateway_format.proofs.Outcomes.{one-read-outer, one-read, one-write, one-unframe, one-frame}
-use Prim.Native.Nat.{ℕ, _<_}
-use mathlib.Core.Path.{_≡_}
-use mathlib.Core.Bool.{true}
+use Prim.Native.Nat.{ℕ, _≤_}
+use mathlib.Core.Path.{_≡_, ap}
+use mathlib.Core.Bool.{true, not}
 use borrow.Author.Tests.{lt-ltb}
 use Rattle.message.specs.declared.value.Message.{Message}
+use Rattle.format.proofs.HeaderForth.{header-forth}
 use Rattle.format.proofs.WriteRead.{Sized}
-use Rattle.places.specs.Fields.{fieldsOf}
+use Rattle.places.specs.Fields.{fieldsWith, fieldsOf}
 use Rattle.gateway_format.specs.Values.{fits, valueFrom}
 use Rattle.gateway_format.proofs.Fitted.{true-and}
-use Rattle.gateway_format.proofs.Flags.{flags-back, flags-only}
+use Rattle.gateway_format.proofs.Flags.{flags-back, flags-low}
 
--- a value whose fields are within their types
+-- a value whose fields are within their types, of a version and an encrypt type that can be written
 pub record Typed (m : Message) : Type 0 where
-  pub version : m .version < 256
-  pub encrypt : m .encrypt < 256
+  pub version : m .version ≤ 2
+  pub encrypt : m .encrypt ≤ 1
   pub sized : Sized m
 
-module _ (m : Message) (len verdict reply : ℕ) where
+module _ (m : Message) (typed : Typed m) (len verdict reply : ℕ) where
   -- the places of a value say that value
   pub value-back : valueFrom (fieldsOf m len verdict reply) ≡ m
-  unfolding fieldsOf valueFrom
+  unfolding fieldsWith valueFrom
   value-back =
+      let h = header-forth m (typed .version) (typed .encrypt) in
       let f = flags-back m in
       λ i. record {
-        version = m .version;
-        tunnelled = f .tunnelled i;
-        sourced = f .sourced i;
-        destined = f .destined i;
-        encrypt = m .encrypt;
+        version = h .version i;
+        tunnelled = h .tunnelled i;
+        sourced = h .sourced i;
+        destined = h .destined i;
+        encrypt = h .encrypt i;
         id = m .id;
         source = m .source;
         destination = m .destination;
@@ -45,8 +47,9 @@ module _ (m : Message) (len verdict reply : ℕ) where
       }
 
   -- and none of them is refused
-  pub value-fits : Typed m → fits (fieldsOf m len verdict reply) ≡ true
-  unfolding fieldsOf fits
-  value-fits h =
-      let s = h .sized in
-      true-and _ _ (true-and _ _ (true-and _ _ (true-and _ _ (true-and _ _ (true-and _ _ (true-and _ _ (true-and _ _ (lt-ltb _ _ (h .version)) (lt-ltb _ _ (h .encrypt))) (flags-only m)) (lt-ltb _ _ (s .id))) (lt-ltb _ _ (s .key))) (lt-ltb _ _ (s .kind))) (lt-ltb _ _ (s .exchange))) (lt-ltb _ _ (s .profile))) (lt-ltb _ _ (s .acknowledged))
+  pub value-fits : fits (fieldsOf m len verdict reply) ≡ true
+  unfolding fieldsWith fits
+  value-fits =
+      let h = header-forth m (typed .version) (typed .encrypt) in
+      let s = typed .sized in
+      true-and _ _ (true-and _ _ (true-and _ _ (true-and _ _ (true-and _ _ (true-and _ _ (true-and _ _ (true-and _ _ (lt-ltb _ _ (h .low)) (ap not (h .clean))) (flags-low m)) (lt-ltb _ _ (s .id))) (lt-ltb _ _ (s .key))) (lt-ltb _ _ (s .kind))) (lt-ltb _ _ (s .exchange))) (lt-ltb _ _ (s .profile))) (lt-ltb _ _ (s .acknowledged))

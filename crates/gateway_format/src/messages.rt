@@ -50,7 +50,8 @@ pub extern "C" fn kabizarle_read(bytes: &[u8], fields: &mut [u64; FIELDS]) -> u3
     let reading = reader::read(bytes);
     match reading {
         Reading::Taken(m) => {
-            places::store(m, bytes.len(), places::NONE, 0, fields);
+            let header = wire::get16(bytes);
+            places::store(m, header, bytes.len(), places::NONE, 0, fields);
             places::NO_REFUSAL
         }
         Reading::Refused(refusal) => refusal.number as u32,
@@ -72,7 +73,7 @@ pub(crate) fn settle(answer: Writing, written: &mut u64) -> u32
 }
 
 // Writes the message that the places say at the front of a buffer, and says its length; only the first
-// eleven places are looked at. A number that its field cannot hold is refused with 14 before anything
+// ten places are looked at. A number that its field cannot hold is refused with 14 before anything
 // else; then whatever writing refuses.
 #[no_mangle]
 pub extern "C" fn kabizarle_write(

@@ -1,6 +1,6 @@
 // The value that the places of an array say, where each can be the number of its field.
 ghost use mathlib.Core.Path.{_≡_};
-ghost use Rattle.gateway_format.specs.Values.{onlyFlags, fits, Fitting, valueFrom};
+ghost use Rattle.gateway_format.specs.Values.{cleanHeader, fits, Fitting, valueFrom};
 use message::Message;
 use places::FIELDS;
 
@@ -11,29 +11,30 @@ const ABOVE_16: u64 = 0x1_0000;
 
 const ABOVE_32: u64 = 0x1_0000_0000;
 
-// One more than the greatest number up to the highest flag; and between the flags of the exchange
-// header and those of the header, the weight of the bits that are no flags, and how many numbers
-// they hold.
-const ABOVE_FLAGS: u64 = 2048;
+// One more than the greatest sum of flags.
+const ABOVE_FLAGS: u64 = 8;
 
-const BETWEEN: u64 = 8;
+// The bits of a header that no field has: bit 11 by its weight, and those below this weight.
+const RESERVED: u64 = 2048;
 
-const BETWEEN_NUMBERS: u64 = 32;
+const RESERVED_LOW: u64 = 16;
 
-// Whether no bit is set but those of the flags.
-fn only_flags(flags: u64) -> bool
-    ensures { λ r. ⌜ r ≡ onlyFlags flags ⌝ }
+// How many versions and encrypt types a header can hold.
+const KINDS: u64 = 16;
+
+// Whether a number is a header with no bit set that no field has.
+fn clean_header(header: u64) -> bool
+    ensures { λ r. ⌜ r ≡ cleanHeader header ⌝ }
 {
-    (flags < ABOVE_FLAGS) & (flags / BETWEEN % BETWEEN_NUMBERS == 0)
+    (header < ABOVE_16) & !((header / RESERVED % 2 == 1) | (header % RESERVED_LOW != 0))
 }
 
 // Whether each place of a value holds a number that its field can hold.
 pub(crate) fn fit(fields: &[u64; FIELDS]) -> bool
     ensures { λ r. ⌜ r ≡ fits (now (fields .entry)) ⌝ }
 {
-    (fields[places::VERSION] < ABOVE_8)
-        & (fields[places::ENCRYPT] < ABOVE_8)
-        & only_flags(fields[places::FLAGS])
+    clean_header(fields[places::HEADER])
+        & (fields[places::FLAGS] < ABOVE_FLAGS)
         & (fields[places::ID] < ABOVE_32)
         & (fields[places::KEY] < ABOVE_16)
         & (fields[places::KIND] < ABOVE_8)
@@ -47,13 +48,14 @@ pub(crate) fn value(fields: &[u64; FIELDS]) -> Message
     requires { ⌜ Fitting (now fields) ⌝ }
     ensures { λ r. ⌜ r ≡ valueFrom (now (fields .entry)) ⌝ }
 {
+    let header = fields[places::HEADER];
     let flags = fields[places::FLAGS];
     Message {
-        version: fields[places::VERSION] as u8,
-        tunnelled: flags / places::TUNNELLED % 2 == 1,
-        sourced: flags / places::SOURCED % 2 == 1,
-        destined: flags / places::DESTINED % 2 == 1,
-        encrypt: fields[places::ENCRYPT] as u8,
+        version: (header / places::VERSION % KINDS) as u8,
+        tunnelled: header / places::TUNNELLED % 2 == 1,
+        sourced: header / places::SOURCED % 2 == 1,
+        destined: header / places::DESTINED % 2 == 1,
+        encrypt: (header / places::ENCRYPTED % KINDS) as u8,
         id: fields[places::ID] as u32,
         source: fields[places::SOURCE],
         destination: fields[places::DESTINATION],

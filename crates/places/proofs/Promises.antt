@@ -9,27 +9,32 @@ use native.Mathlib.Omega.{arith}
 use lib.ListN.{length, getD, take, drop, length-drop}
 use lib.Seq.{take-all}
 use Rattle.message.specs.Layout.{headLength, checkLength}
+use Rattle.message.specs.Value.{headerOf}
 use Rattle.message.specs.declared.value.Message.{Message}
 use Rattle.message.specs.declared.answers.Reading.the-variants.{Taken}
 use Rattle.reader.specs.Reading.{readOf, payloadOf, checkOf}
 use Rattle.reader.proofs.Clear.{fits}
 use Rattle.format.proofs.Taken.{payload-is, check-is}
-use Rattle.places.specs.Fields.{fieldsOf}
+use Rattle.places.specs.Fields.{fieldsWith, fieldsOf}
+
+-- the places with the header of the value are those of the value
+pub with-header : (m : Message) (header len verdict reply : ℕ) → header ≡ headerOf m → fieldsWith header m len verdict reply ≡ fieldsOf m len verdict reply
+with-header m header len verdict reply e = ap (λ (h : ℕ). fieldsWith h m len verdict reply) e
 
 module _ (bytes : List ℕ) (m : Message) (taken : readOf bytes ≡ Taken m) (verdict reply : ℕ) where
   abbrev fields : List ℕ
   fields = fieldsOf m (length bytes) verdict reply
 
-  -- the payload or the packet is where places 11 and 12 say
-  pub payload-there : take (getD fields 12 0) (drop (getD fields 11 0) bytes) ≡ payloadOf bytes (readOf bytes)
-  unfolding fieldsOf
+  -- the payload or the packet is where places 10 and 11 say
+  pub payload-there : take (getD fields 11 0) (drop (getD fields 10 0) bytes) ≡ payloadOf bytes (readOf bytes)
+  unfolding fieldsWith
   payload-there =
       let n : length bytes - (headLength m + checkLength m) ≡ length bytes - checkLength m - headLength m = omega arith in
       ap (λ (k : ℕ). take k (drop (headLength m) bytes)) n ∙ sym (payload-is bytes m taken)
 
-  -- the check is where places 13 and 14 say
-  pub check-there : take (getD fields 14 0) (drop (getD fields 13 0) bytes) ≡ checkOf bytes (readOf bytes)
-  unfolding fieldsOf
+  -- the check is where places 12 and 13 say
+  pub check-there : take (getD fields 13 0) (drop (getD fields 12 0) bytes) ≡ checkOf bytes (readOf bytes)
+  unfolding fieldsWith
   check-there =
       let h = fits bytes m taken in
       let n : headLength m + (length bytes - (headLength m + checkLength m)) ≡ length bytes - checkLength m = omega arith in

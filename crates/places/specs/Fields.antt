@@ -1,20 +1,19 @@
--- The fields of a message in seventeen places. Assumes nothing.
+-- The fields of a message in sixteen places. Assumes nothing.
 use Prim.Native.Nat.{ℕ, _+_, _-_}
 use mathlib.Core.List.{List, [], _∷_}
 use Rattle.message.specs.Layout.{only, headLength, checkLength}
+use Rattle.message.specs.Value.{headerOf}
 use Rattle.message.specs.declared.value.Message.{Message}
 
--- each flag is a bit where the wire has it: T, S and D in the header, I, A and R in the exchange header
+-- the flags of the exchange header, each a bit where the wire has it: I, A and R
 unfoldable pub flagsOf : Message → ℕ
-flagsOf m =
-    only (m .tunnelled) 1024 + only (m .sourced) 512 + only (m .destined) 256 + only (m .initiator) 1 + only (m .acknowledges) 2 + only (m .wants) 4
+flagsOf m = only (m .initiator) 1 + only (m .acknowledges) 2 + only (m .wants) 4
 
--- the places in their order, of a value, the length of its bytes, a verdict and the length of a reply: the payload stands behind the fields,
--- and the check behind the payload
-unfoldable pub fieldsOf : Message → ℕ → ℕ → ℕ → List ℕ
-fieldsOf m len verdict reply =
-    m .version
-    ∷ m .encrypt
+-- the places in their order, of a header, a value, the length of its bytes, a verdict and the length of a reply: the payload stands behind the
+-- fields, and the check behind the payload
+unfoldable pub fieldsWith : ℕ → Message → ℕ → ℕ → ℕ → List ℕ
+fieldsWith header m len verdict reply =
+    header
     ∷ flagsOf m
     ∷ m .id
     ∷ m .source
@@ -31,3 +30,7 @@ fieldsOf m len verdict reply =
     ∷ verdict
     ∷ reply
     ∷ []
+
+-- with the header of the value: version, T, S, D and encrypt type as the wire has them
+abbrev pub fieldsOf : Message → ℕ → ℕ → ℕ → List ℕ
+fieldsOf m len verdict reply = fieldsWith (headerOf m) m len verdict reply

@@ -3,7 +3,7 @@ ghost use mathlib.Core.Path.{_≡_};
 ghost use Prim.Native.Nat.{_+_, _-_, _≤_};
 ghost use lib.ListN.{length};
 ghost use Rattle.message.specs.Layout.{only};
-ghost use Rattle.places.specs.Fields.{fieldsOf};
+ghost use Rattle.places.specs.Fields.{fieldsWith};
 use message::Message;
 
 // The same number, in a place.
@@ -32,18 +32,9 @@ fn only64(on: bool, n: u64) -> u64
     if on { n } else { 0 }
 }
 
-// The bits of T, S and D.
-fn header_flags(tunnelled: bool, sourced: bool, destined: bool) -> u64
-    ensures { λ r. ⌜ (r ≡ only tunnelled 1024 + only sourced 512 + only destined 256) × (r ≤ 1792) ⌝ }
-{
-    only64(tunnelled, crate::TUNNELLED)
-        + only64(sourced, crate::SOURCED)
-        + only64(destined, crate::DESTINED)
-}
-
 // The bits of I, A and R.
-fn exchange_flags(initiator: bool, acknowledges: bool, wants: bool) -> u64
-    ensures { λ r. ⌜ (r ≡ only initiator 1 + only acknowledges 2 + only wants 4) × (r ≤ 7) ⌝ }
+fn flags_of(initiator: bool, acknowledges: bool, wants: bool) -> u64
+    ensures { λ r. ⌜ r ≡ only initiator 1 + only acknowledges 2 + only wants 4 ⌝ }
 {
     only64(initiator, crate::INITIATOR)
         + only64(acknowledges, crate::ACKNOWLEDGES)
@@ -58,18 +49,16 @@ fn left_of(size: usize, taken: usize) -> usize
 }
 
 // Puts all that `store` does into an array that has all places.
-fn put(m: Message, size: usize, verdict: u64, reply: usize, fields: &mut [u64])
-    requires { ⌜ length (now fields) ≡ 17 ⌝ }
-    ensures { λ _. ⌜ now (fields .exit) ≡ fieldsOf m size verdict reply ⌝ }
+fn put(m: Message, header: u16, size: usize, verdict: u64, reply: usize, fields: &mut [u64])
+    requires { ⌜ length (now fields) ≡ 16 ⌝ }
+    ensures { λ _. ⌜ now (fields .exit) ≡ fieldsWith header m size verdict reply ⌝ }
 {
     let head = message::head_length(m);
     let check = message::check_length(m);
     let payload = left_of(size, head + check);
-    let header = header_flags(m.tunnelled, m.sourced, m.destined);
-    let exchange = exchange_flags(m.initiator, m.acknowledges, m.wants);
-    fields[crate::VERSION] = wide8(m.version);
-    fields[crate::ENCRYPT] = wide8(m.encrypt);
-    fields[crate::FLAGS] = header + exchange;
+    let flags = flags_of(m.initiator, m.acknowledges, m.wants);
+    fields[crate::HEADER] = wide16(header);
+    fields[crate::FLAGS] = flags;
     fields[crate::ID] = wide32(m.id);
     fields[crate::SOURCE] = m.source;
     fields[crate::DESTINATION] = m.destination;
@@ -86,10 +75,17 @@ fn put(m: Message, size: usize, verdict: u64, reply: usize, fields: &mut [u64])
     fields[crate::REPLY_LENGTH] = reply as u64;
 }
 
-// Puts a value whose message has this size, a verdict and the length of a reply into all places. The
-// payload stands behind the fields, and the check behind the payload.
-pub fn store(m: Message, size: usize, verdict: u64, reply: usize, fields: &mut [u64; crate::FIELDS])
-    ensures { λ _. ⌜ now (fields .exit) ≡ fieldsOf m size verdict reply ⌝ }
+// Puts a value whose message has this header and size, a verdict and the length of a reply into all
+// places. The payload stands behind the fields, and the check behind the payload.
+pub fn store(
+    m: Message,
+    header: u16,
+    size: usize,
+    verdict: u64,
+    reply: usize,
+    fields: &mut [u64; crate::FIELDS],
+)
+    ensures { λ _. ⌜ now (fields .exit) ≡ fieldsWith header m size verdict reply ⌝ }
 {
-    put(m, size, verdict, reply, fields);
+    put(m, header, size, verdict, reply, fields);
 }

@@ -26,7 +26,7 @@ pub const CHECK_BYTES: usize = 20;
 pub const ACKNOWLEDGEMENT_BYTES: usize = 56;
 
 // How many places the fields of a message take.
-pub const FIELDS: usize = 17;
+pub const FIELDS: usize = 16;
 
 // How many places the protected part takes.
 pub const PART_PLACES: usize = 2;
@@ -37,56 +37,53 @@ pub const FRAME_PLACES: usize = 5;
 // How many places the fields of a row take.
 pub const ROW_PLACES: usize = 5;
 
-// Fields: the version, 1 or 2.
-pub const VERSION: usize = 0;
+// Fields: the header as the wire has it: the version times 4,096, and the bits T, S, D and of the encrypt type.
+pub const HEADER: usize = 0;
 
-// Fields: the encrypt type, 0 or 1.
-pub const ENCRYPT: usize = 1;
-
-// Fields: the sum of the bits of the flags that are set.
-pub const FLAGS: usize = 2;
+// Fields: the sum of the bits I, A and R of the exchange header that are set.
+pub const FLAGS: usize = 1;
 
 // Fields: the message id.
-pub const ID: usize = 3;
+pub const ID: usize = 2;
 
 // Fields: the source node, 0 where it is absent.
-pub const SOURCE: usize = 4;
+pub const SOURCE: usize = 3;
 
 // Fields: the destination node, 0 where it is absent.
-pub const DESTINATION: usize = 5;
+pub const DESTINATION: usize = 4;
 
 // Fields: the key id, 0 of a plain message.
-pub const KEY: usize = 6;
+pub const KEY: usize = 5;
 
 // Fields: the message type.
-pub const KIND: usize = 7;
+pub const KIND: usize = 6;
 
 // Fields: the exchange id.
-pub const EXCHANGE: usize = 8;
+pub const EXCHANGE: usize = 7;
 
 // Fields: the profile id.
-pub const PROFILE: usize = 9;
+pub const PROFILE: usize = 8;
 
 // Fields: the acknowledged id, 0 where it is absent.
-pub const ACKNOWLEDGED: usize = 10;
+pub const ACKNOWLEDGED: usize = 9;
 
 // Fields: where the payload or the packet starts in the message.
-pub const PAYLOAD_START: usize = 11;
+pub const PAYLOAD_START: usize = 10;
 
 // Fields: the length of the payload or the packet.
-pub const PAYLOAD_LENGTH: usize = 12;
+pub const PAYLOAD_LENGTH: usize = 11;
 
 // Fields: where the check starts in the message.
-pub const CHECK_START: usize = 13;
+pub const CHECK_START: usize = 12;
 
 // Fields: the length of the check.
-pub const CHECK_LENGTH: usize = 14;
+pub const CHECK_LENGTH: usize = 13;
 
 // Fields: the verdict.
-pub const VERDICT: usize = 15;
+pub const VERDICT: usize = 14;
 
 // Fields: how many bytes of the output buffer are the acknowledgement.
-pub const REPLY_LENGTH: usize = 16;
+pub const REPLY_LENGTH: usize = 15;
 
 // Protected part: where it starts in the message.
 pub const PART_START: usize = 0;
@@ -133,14 +130,20 @@ pub const STATE_WORD: usize = 1;
 // Row of the table: the word of the marks.
 pub const MARKS_WORD: usize = 2;
 
-// Flag T: an IP packet in place of the exchange fields and the payload.
+// Header: what the version is multiplied by.
+pub const VERSION: u64 = 4096;
+
+// Header, T: an IP packet in place of the exchange fields and the payload.
 pub const TUNNELLED: u64 = 1024;
 
-// Flag S: the source is present.
+// Header, S: the source is present.
 pub const SOURCED: u64 = 512;
 
-// Flag D: the destination is present.
+// Header, D: the destination is present.
 pub const DESTINED: u64 = 256;
+
+// Header: encrypt type 1.
+pub const ENCRYPTED: u64 = 16;
 
 // Flag I: sent by the one who began the exchange.
 pub const INITIATOR: u64 = 1;

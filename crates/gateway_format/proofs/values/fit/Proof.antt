@@ -6,16 +6,15 @@ use Rattle.gateway_format.proofs.values.fit.Tie as tie
 
 returns : tie.Need-returns
 unfolding fits
-returns c = simp (c .before .before .before .before .before .before .only-flags .ensures)
+returns c = simp (c .before .before .before .before .before .before .before .clean-header .ensures)
 
 pub fit-spec : {M : Type 1} → statement M
 fit-spec =
     tie.close
     (tie.spec
     (λ c. search needs)
-    (λ c. search needs)
-    (λ c. search needs)
     (λ c κs. search needs)
+    (λ c. search needs)
     (λ c. search needs)
     (λ c. search needs)
     (λ c. search needs)
