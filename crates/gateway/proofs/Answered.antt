@@ -8,7 +8,7 @@ use Rattle.window.specs.declared.Rolled.{Rolled}
 use Rattle.window.specs.declared.Verdict.{Verdict}
 use Rattle.window.specs.declared.Verdict.the-variants as Verdict
 use Rattle.window.specs.Rows.{rolledOf}
-use Rattle.reception.specs.Table.{rowOf, withRow}
+use Rattle.table.specs.Table.{rowOf, withRow}
 use Rattle.gateway.specs.Rows.{verdictNumber, wordsAfter, rolledWords}
 
 -- the row of three words is that of the list they stand in

@@ -5,7 +5,7 @@ use Rattle.window.specs.declared.Row.{Row}
 use Rattle.window.specs.declared.Rolled.{Rolled}
 use Rattle.window.specs.declared.Verdict.{Verdict}
 use Rattle.window.specs.declared.Verdict.the-variants as Verdict
-use Rattle.reception.specs.Table.{bit, withRow}
+use Rattle.table.specs.Table.{bit, withRow}
 
 -- the number of a verdict; 0 is none
 abbrev pub verdictNumber : Verdict → ℕ

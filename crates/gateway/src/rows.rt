@@ -2,7 +2,7 @@
 ghost use mathlib.Core.Path.{_≡_};
 ghost use lib.ListN.{length};
 ghost use Rattle.window.specs.Rows.{rolledOf};
-ghost use Rattle.reception.specs.Table.{bit, rowOf, withRow, rowAt};
+ghost use Rattle.table.specs.Table.{bit, rowOf, withRow, rowAt};
 ghost use Rattle.gateway.specs.Rows.{verdictNumber, rolledWords, rowPlaces};
 use places::ROW_PLACES;
 use places::ROW_WORDS;

@@ -10,7 +10,7 @@ use Rattle.window.specs.Rows.{marksHeld, listOf}
 use Rattle.window.specs.declared.Row.{Row}
 use Rattle.window.proofs.History.{Stands, stands-own}
 use Rattle.window.proofs.Rows.{fits-gateway}
-use Rattle.reception.specs.Table.{rows, rowOf, named}
+use Rattle.table.specs.Table.{rows, rowOf, named}
 use Rattle.writer.specs.Acknowledgement.{zeros}
 use Rattle.reception.specs.History.{Book, Step, Answer, answersOf, tableOf, emptyTable, emptyBook, answersBy, bookOf, kept, inUse, handedIn}
 use Rattle.reception.proofs.Kept.{kept-none}

@@ -8,7 +8,7 @@ use borrow.Author.Tests.{le-leb, lt-leb, leb-true, leb-false}
 use lib.Dec.{leb}
 use lib.ListN.{length}
 use Rattle.window.specs.declared.Row.{Row}
-use Rattle.reception.specs.Table.{bit, firstBelow}
+use Rattle.table.specs.Table.{bit, firstBelow}
 use Rattle.reception.specs.History.{kept}
 
 -- the same rows but for number i

@@ -2,7 +2,6 @@
 pub mod Promises
 pub mod History
 pub mod Kept
-pub mod Least
 pub mod Orders
 pub mod Outcomes
 pub mod Places
@@ -10,4 +9,3 @@ pub mod Planned
 pub mod Steps
 pub mod Told
 pub mod WasRead
-pub mod Words

@@ -28,7 +28,7 @@ use Rattle.window.specs.declared.Verdict.{Verdict}
 use Rattle.window.specs.declared.Verdict.the-variants.{New, Duplicate}
 use Rattle.reception.specs.declared.answers.Received.{Received}
 use Rattle.reception.specs.declared.answers.Received.the-variants as Received
-use Rattle.reception.specs.Table.{rows}
+use Rattle.table.specs.Table.{rows}
 use Rattle.writer.specs.Acknowledgement.{acknowledgementOf, acknowledgementBytes, acknowledging, blankCheck}
 use Rattle.reception.specs.Acknowledgement.{unwritable, noRoom, reasoned, plannedOf, answeredBy}
 use Rattle.reception.proofs.Planned.{differ, unwritten}

@@ -16,12 +16,7 @@ use mathlib.Core.Bool.{Bool}
 use mathlib.Core.List.{List}
 use Rattle.reception.specs.declared.answers.Removed.{Removed}
 use Rattle.reception.specs.declared.answers.Received.{Received}
-use Rattle.window.specs.declared.Row.{Row}
 use Rattle.wire.proofs.One.{both, two, three}
-use Rattle.reception.proofs.table.row_at as reading
-use Rattle.reception.proofs.table.put_row as putting
-use Rattle.reception.proofs.table.row_from as words
-use Rattle.reception.proofs.table.state_of as state
 use Rattle.reception.proofs.removing.remove as removing
 use Rattle.reception.proofs.receiving.receive as receiving
 
@@ -41,27 +36,3 @@ module _ {M : Type 1} (𝓤 : URA M) (H : Heap 𝓤) (A : Atoms 𝓤) (at-mem : 
   one-receipt κs own link passed id bytes table out r s x y =
       via 𝓤 _ (conj-mono 𝓤 (three 𝓤 _ _ _) (three 𝓤 _ _ _))
       (both 𝓤 _ _ _ (λ e f. (e .0 ∙ sym (f .0), (e .1 .0 ∙ sym (f .1 .0), e .1 .1 ∙ sym (f .1 .1)))))
-
-  -- `row_at` gives one row
-  pub one-row-at : (κs : Lfts 1) (table : RefT (List ℕ)) (number : ℕ) (r s : Row) (x y : AtExit reading.ended κs)
-      → let allows : Row → AtExit reading.ended κs → SProp 𝓤 = λ v e. reading.clauses 𝓤 H A at-mem run κs (table, (number, tt)) .ensures tt v e in
-      ent 𝓤 (conj 𝓤 (allows r x) (allows s y)) (fact 𝓤 (r ≡ s))
-  one-row-at κs table number r s x y = both 𝓤 _ _ _ (λ e f. e ∙ sym f)
-
-  -- `put_row` leaves one table
-  pub one-put-row : (κs : Lfts 1) (table : RefT (List ℕ)) (number : ℕ) (row : Row) (r s : Unit {0}) (x y : AtExit putting.ended κs)
-      → let allows : Unit {0} → AtExit putting.ended κs → SProp 𝓤 = λ v e. putting.clauses 𝓤 H A at-mem run κs (table, (number, (row, tt))) .ensures tt v e in
-      ent 𝓤 (conj 𝓤 (allows r x) (allows s y)) (fact 𝓤 (now (x .0) ≡ now (y .0)))
-  one-put-row κs table number row r s x y = both 𝓤 _ _ _ (λ e f. e ∙ sym f)
-
-  -- `row_from` gives one row
-  pub one-row-from : (κs : Lfts 0) (node second third : ℕ) (r s : Row) (x y : AtExit words.ended κs)
-      → let allows : Row → AtExit words.ended κs → SProp 𝓤 = λ v e. words.clauses 𝓤 H A at-mem run κs (node, (second, (third, tt))) .ensures tt v e in
-      ent 𝓤 (conj 𝓤 (allows r x) (allows s y)) (fact 𝓤 (r ≡ s))
-  one-row-from κs node second third r s x y = both 𝓤 _ _ _ (λ e f. e ∙ sym f)
-
-  -- `state_of` gives one word
-  pub one-state-of : (κs : Lfts 0) (row : Row) (r s : ℕ) (x y : AtExit state.ended κs)
-      → let allows : ℕ → AtExit state.ended κs → SProp 𝓤 = λ v e. state.clauses 𝓤 H A at-mem run κs (row, tt) .ensures tt v e in
-      ent 𝓤 (conj 𝓤 (allows r x) (allows s y)) (fact 𝓤 (r ≡ s))
-  one-state-of κs row r s x y = both 𝓤 _ _ _ (λ e f. e ∙ sym f)

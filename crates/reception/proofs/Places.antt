@@ -14,11 +14,11 @@ use Rattle.window.specs.declared.Rolled.{Rolled}
 use Rattle.message.specs.Answers.{refusal}
 use Rattle.reception.specs.declared.answers.Removed.the-variants.{Done, Refused}
 use Rattle.window.specs.declared.Verdict.the-variants.{New}
-use Rattle.reception.specs.Table.{rows, freed, rowOf, withRow, putAt, named, isFree, findOf, freeOf}
+use Rattle.table.specs.Table.{rows, freed, rowOf, withRow, rowAt, putAt, named, under, isFree, findOf, freeOf}
 use Rattle.reception.specs.Receiving.{placeOf, rolledIn, noRow}
 use Rattle.reception.specs.Removing.{removeOf, removeTable}
-use Rattle.reception.proofs.Least.{first-holds, first-misses, first-none}
-use Rattle.reception.proofs.Words.{put-within}
+use Rattle.table.proofs.Least.{first-holds, first-misses, first-none}
+use Rattle.table.proofs.Words.{named-row, row-within, put-within}
 
 module _ (t : List ℕ) (node key id : ℕ) where
   -- the row found is rolled
@@ -39,12 +39,18 @@ module _ (t : List ℕ) (node key id : ℕ) where
         ap (λ (b : Bool). cond b (rolledOf (rowOf t (findOf rows t node key)) id) (record { verdict = New; row = opened node key id })) e,
       )
 
+  -- the row found is in use under the name
+  is-named : (i : ℕ) → i ≡ findOf rows t node key → i < rows → named node key (rowOf t i) ≡ true
+  unfolding findOf
+  is-named i e l =
+      ap (λ (k : ℕ). named node key (rowOf t k)) e ∙ first-holds rows (λ k. named node key (rowOf t k)) (subst (λ (k : ℕ). k < rows) e l)
+
   -- as the code goes: the row at the number i that was found is rolled
-  pub rolls : (i : ℕ) (row : Row) (rolled : Rolled) → i ≡ findOf rows t node key → i < rows → row ≡ rowOf t i → rolled ≡ rolledOf row id
+  pub rolls : (i : ℕ) (row : Row) (rolled : Rolled) → i ≡ findOf rows t node key → i < rows → row ≡ under node key (rowAt t i) → rolled ≡ rolledOf row id
       → (i ≡ placeOf t node key) × (rolled ≡ rolledIn t node key id)
   rolls i row rolled e l r q =
       let f = found (subst (λ (k : ℕ). k < rows) e l) in
-      (e ∙ sym (f .0), q ∙ ap (λ (x : Row). rolledOf x id) (r ∙ ap (rowOf t) e) ∙ sym (f .1))
+      (e ∙ sym (f .0), q ∙ ap (λ (x : Row). rolledOf x id) (r ∙ ap (under node key) (row-within t i l) ∙ named-row (rowOf t i) node key (is-named i e l) ∙ ap (rowOf t) e) ∙ sym (f .1))
 
   -- or, at the free number i, one is opened
   pub opens-at : (i f : ℕ) (row : Row) → i ≡ findOf rows t node key → rows ≤ i → f ≡ freeOf rows t → row ≡ opened node key id
@@ -54,12 +60,6 @@ module _ (t : List ℕ) (node key id : ℕ) where
       (g ∙ sym (o .0), ap (λ (x : Row). record { verdict = New; row = x }) r ∙ sym (o .1))
 
 module _ (t : List ℕ) (node key i : ℕ) (e : i ≡ findOf rows t node key) where
-  -- the row found is in use under the name
-  pub is-named : i < rows → named node key (rowOf t i) ≡ true
-  unfolding findOf
-  is-named l =
-      ap (λ (k : ℕ). named node key (rowOf t k)) e ∙ first-holds rows (λ k. named node key (rowOf t k)) (subst (λ (k : ℕ). k < rows) e l)
-
   -- removing where there is a row, and where there is none
   pub removes : (after : List ℕ) → i < rows → after ≡ putAt t i freed → (Done ≡ removeOf t node key) × (after ≡ removeTable t node key)
   unfolding removeOf removeTable

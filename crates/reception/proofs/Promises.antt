@@ -1,11 +1,9 @@
 -- What reception promises, each as a theorem of its own. The laws behind them are in the other files of this folder. Assumes nothing.
 
--- A row that was put is read back, and every other row and word is as it was.
-pub use Rattle.reception.proofs.Words.{same-row, other-row, other-word, length-put}
 -- 20 is said exactly when the name has no row and all rows are in use.
 pub use Rattle.reception.proofs.Places.{full-says, full-when}
--- Only one outcome fits `receive`, and one `remove`, `row_from` and `state_of`.
-pub use Rattle.reception.proofs.Outcomes.{one-receipt, one-removal, one-row-from, one-state-of}
+-- Only one outcome fits `receive`, and one `remove`.
+pub use Rattle.reception.proofs.Outcomes.{one-receipt, one-removal}
 -- A verdict is given only to a message that reading takes.
 pub use Rattle.reception.proofs.WasRead.{new-was-read, duplicate-was-read}
 use Prim.Native.Nat.{ℕ, _+_, _<_, _*_}
@@ -33,11 +31,12 @@ use Rattle.window.specs.declared.Verdict.the-variants.{New}
 use Rattle.window.proofs.Promises.{no-position-twice}
 use Rattle.reception.specs.declared.answers.Received.{Received}
 use Rattle.reception.specs.declared.answers.Received.the-variants as Received
-use Rattle.reception.specs.Table.{rows, freed, rowOf, withRow, findOf}
+use Rattle.table.specs.Table.{rows, freed, rowOf, withRow, findOf}
 use Rattle.writer.specs.Acknowledgement.{acknowledgementOf, blankCheck, acknowledgementBytes, acknowledging}
 use Rattle.reception.specs.Receiving.{Beside, senderOf, placeOf, answerTo, receivingOrder, answerOf, receiveOf, tableBy, receiveTable, bufferBy, receiveBuffer}
 use Rattle.reception.specs.Removing.{removeTable}
 use Rattle.reception.specs.History.{Step, arrives, leaves, answerAt, tableAt, answersOf, tableOf, emptyTable, Book, emptyBook, isNew, joined, fullFor, under, receiveBy, answerBy, bookAfter, bookWithout, bookAt, answersBy, bookOf, handedIn}
+use Rattle.table.proofs.Words.{other-row, other-word}
 use Rattle.reception.proofs.Orders.{keeps-table, keeps-buffer}
 use Rattle.reception.proofs.Told.{Told, is-open, is-shut}
 use Rattle.reception.proofs.Steps.{Bytes, is-new, one-step}

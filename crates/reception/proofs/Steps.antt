@@ -31,7 +31,7 @@ use Rattle.window.proofs.Marks.{step-new}
 use Rattle.window.proofs.History.{Stands, stands-opened, stands-on, verdict-on, was-accepted}
 use Rattle.window.proofs.Promises.{gateway, name-stays, gateway-stray-bit}
 use Rattle.window.proofs.Rows.{fits-gateway}
-use Rattle.reception.specs.Table.{rows, bit, freed, rowOf, withRow, isFree, findOf, freeOf}
+use Rattle.table.specs.Table.{rows, bit, freed, rowOf, withRow, isFree, findOf, freeOf}
 use Rattle.reception.specs.Receiving.{Beside, senderOf, noRow, rolledIn, answerTo, deliveryOrder, admissionOrder, afterReading, receivingOrder, received, answerOf, receiveOf, tableAfter, tableBy, receiveTable}
 use Rattle.writer.specs.Acknowledgement.{acknowledging}
 use Rattle.reception.specs.Acknowledgement.{unwritable, noRoom}
@@ -41,8 +41,8 @@ use Rattle.reception.specs.declared.answers.Removed.the-variants as Remo
 use Rattle.reception.specs.Receiving as rcv
 use Rattle.reception.specs.Removing.{removeOf, removeTable}
 use Rattle.reception.specs.History.{Book, Step, arrives, leaves, ofArrival, ofLeaving, answerAt, tableAt, isNew, joined, oneMore, fullFor, removedBy, under, receiveBy, answerBy, bookAfter, bookWithout, bookAt, inUse}
-use Rattle.reception.proofs.Least.{first-holds}
-use Rattle.reception.proofs.Words.{Narrow, other-row}
+use Rattle.table.proofs.Least.{first-holds}
+use Rattle.table.proofs.Words.{Narrow, other-row}
 use Rattle.reception.proofs.Places.{found, opens}
 use Rattle.reception.proofs.Kept.{counts, all-kept}
 use Rattle.reception.proofs.Told.{Told, named-node, named-is, named-not, named-other, g-same, changed, hits, is-open, is-shut, alone}

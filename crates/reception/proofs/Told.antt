@@ -11,10 +11,10 @@ use Rattle.message.proofs.Logic.{clash}
 use Rattle.window.specs.Rows.{marksHeld}
 use Rattle.window.specs.declared.Row.{Row}
 use Rattle.window.proofs.History.{Stands}
-use Rattle.reception.specs.Table.{rows, bit, freed, rowOf, withRow, named, findOf}
+use Rattle.table.specs.Table.{rows, bit, freed, rowOf, withRow, named, findOf}
 use Rattle.reception.specs.History.{Book, under, kept, inUse}
-use Rattle.reception.proofs.Least.{first-holds, first-misses}
-use Rattle.reception.proofs.Words.{Narrow, length-put, other-row, same-row}
+use Rattle.table.proofs.Least.{first-holds, first-misses}
+use Rattle.table.proofs.Words.{Narrow, length-put, other-row, same-row}
 use Rattle.reception.proofs.Kept.{Apart, kept-same, kept-none, Split, split, counts}
 
 -- rows stand for lists, one for one

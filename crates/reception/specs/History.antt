@@ -16,7 +16,7 @@ use Rattle.reception.specs.declared.answers.Received.{Received}
 use Rattle.reception.specs.declared.answers.Received.the-variants as Received
 use Rattle.reception.specs.declared.answers.Removed.{Removed}
 use Rattle.reception.specs.declared.answers.Removed.the-variants as Removed
-use Rattle.reception.specs.Table.{rows, rowOf, named}
+use Rattle.table.specs.Table.{rows, rowOf, named}
 use Rattle.writer.specs.Acknowledgement.{zeros}
 use Rattle.reception.specs.Receiving.{Beside, senderOf, answerTo, receivingOrder, answerOf, receiveOf, receiveTable}
 use Rattle.reception.specs.Removing.{removeOf, removeTable}

@@ -1,5 +1,4 @@
 -- What the contracts of `reception` cite, and what the laws say of a history.
-pub mod Table
 pub mod Acknowledgement
 pub mod Receiving
 pub mod Removing

@@ -20,7 +20,7 @@ use Rattle.message.specs.declared.answers.Writing.{Writing}
 use Rattle.message.specs.declared.answers.Writing.the-variants.{Written, Refused}
 use Rattle.reception.specs.declared.answers.Received.{Received}
 use Rattle.reception.specs.declared.answers.Received.the-variants as Received
-use Rattle.reception.specs.Table.{rows, rowOf, withRow, findOf, freeOf}
+use Rattle.table.specs.Table.{rows, rowOf, withRow, findOf, freeOf}
 use Rattle.writer.specs.Acknowledgement.{acknowledgementOf, acknowledgementBytes, acknowledging}
 use Rattle.reception.specs.Acknowledgement.{unwritable, noRoom}
 

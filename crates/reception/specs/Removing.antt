@@ -6,7 +6,7 @@ use lib.Dec.{ltb}
 use Rattle.message.specs.Answers.{refusal}
 use Rattle.reception.specs.declared.answers.Removed.{Removed}
 use Rattle.reception.specs.declared.answers.Removed.the-variants.{Done, Refused}
-use Rattle.reception.specs.Table.{rows, freed, withRow, findOf}
+use Rattle.table.specs.Table.{rows, freed, withRow, findOf}
 
 -- 21 where the name has no row
 unfoldable pub removeOf : List ℕ → ℕ → ℕ → Removed

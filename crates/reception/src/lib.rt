@@ -1,11 +1,9 @@
-// Reception: the table of rows, receiving a message, removing a row. It stands above the format and
-// the window, and goes by their contracts alone.
+// Reception: receiving a message, and removing a row. It stands above the format, the window and the
+// table, and goes by their contracts alone.
 mod acknowledgement;
 mod answers;
 mod receiving;
 mod removing;
-mod search;
-mod table;
 
 pub use answers::Received;
 pub use answers::Removed;

@@ -7,19 +7,17 @@ ghost use lib.ListN.{length};
 ghost use Rattle.message.specs.Order.{first};
 ghost use Rattle.message.specs.Refusals.{badSource};
 ghost use Rattle.writer.specs.Acknowledgement.{acknowledgementOf};
-ghost use Rattle.reception.specs.Table.{rows, findOf};
+ghost use Rattle.table.specs.Table.{rows, findOf};
 ghost use Rattle.reception.specs.Receiving.{beside, senderOf, notOurs, unchecked, deliveryOrder, answerTo, admitOf, fullOf, deliverOf, receiveOf, tableBy, receiveTable, bufferBy, receiveBuffer};
 use crate::acknowledgement;
 use crate::answers::Received;
-use crate::search;
-use crate::table;
-use crate::table::ROWS;
-use crate::table::WORDS;
 use message::Message;
 use message::Reading;
 use message::Refusal;
 use message::Writing;
 use message::layout;
+use table::ROWS;
+use table::WORDS;
 use window::Row;
 use window::Verdict;
 
@@ -105,7 +103,7 @@ fn admit_known(
     match answer {
         Writing::Refused(refusal) => Received::Refused(refusal),
         Writing::Written(length) => {
-            let row = search::row_named(table, found, sender, m.key);
+            let row = table::row_under(table, found, sender, m.key);
             let rolled = row.rolled(m.id);
             let verdict = rolled.verdict;
             match verdict {
@@ -134,7 +132,7 @@ fn admit_first(
     ensures table { λ r. ⌜ now (table .exit) ≡ tableBy r sender m (now (table .entry)) ⌝ }
     ensures buffer { λ r. ⌜ now (out .exit) ≡ bufferBy r (acknowledgementOf own sender id m) m (now (out .entry)) ⌝ }
 {
-    let place = search::find_free(table);
+    let place = table::find_free(table);
     if ROWS <= place {
         return full(acknowledgement::plan(own, sender, id, m, out.len()));
     }
@@ -161,7 +159,7 @@ fn admit(
     ensures table { λ r. ⌜ now (table .exit) ≡ tableBy r sender m (now (table .entry)) ⌝ }
     ensures buffer { λ r. ⌜ now (out .exit) ≡ bufferBy r (acknowledgementOf own sender id m) m (now (out .entry)) ⌝ }
 {
-    let found = search::find(table, sender, m.key);
+    let found = table::find(table, sender, m.key);
     if found < ROWS {
         return admit_known(found, own, sender, id, m, table, out);
     }

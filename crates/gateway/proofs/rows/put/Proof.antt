@@ -1,6 +1,6 @@
 -- Three words are stored. Assumes nothing.
 use mathlib.Core.Path.{refl}
-use Rattle.reception.specs.Table.{withRow}
+use Rattle.table.specs.Table.{withRow}
 use borrow.Author.Needs.{needs}
 use Rattle.gateway.proofs.rows.put.Statement.{statement}
 use Rattle.gateway.proofs.rows.put.Tie as tie

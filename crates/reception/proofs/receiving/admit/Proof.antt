@@ -1,7 +1,7 @@
 -- By whether the name has a row. Assumes nothing.
 use Prim.Native.Nat.{ℕ, _≤_}
 use mathlib.Core.Path.{subst}
-use Rattle.reception.specs.Table.{rows}
+use Rattle.table.specs.Table.{rows}
 use borrow.Author.Needs.{needs}
 use Rattle.reception.proofs.receiving.admit.Statement.{statement}
 use Rattle.reception.proofs.receiving.admit.Tie as tie

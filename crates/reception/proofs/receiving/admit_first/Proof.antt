@@ -4,10 +4,10 @@ use mathlib.Core.Path.{refl, sym, subst, _∙_}
 use lib.ListN.{length}
 use Rattle.writer.specs.Acknowledgement.{acknowledgementOf}
 use Rattle.message.proofs.Logic.{so}
-use Rattle.reception.specs.Table.{rows}
+use Rattle.table.specs.Table.{rows}
 use Rattle.reception.proofs.Orders.{unanswered, no-row, is-planned, settles}
 use Rattle.reception.proofs.Places.{opens, opens-at}
-use Rattle.reception.proofs.Words.{put-within}
+use Rattle.table.proofs.Words.{put-within}
 use borrow.Author.Needs.{needs}
 use Rattle.reception.proofs.receiving.admit_first.Statement.{statement}
 use Rattle.reception.proofs.receiving.admit_first.Tie as tie

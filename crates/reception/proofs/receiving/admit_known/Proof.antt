@@ -6,14 +6,11 @@ use Rattle.window.specs.declared.Verdict.{Verdict}
 use Rattle.message.proofs.Logic.{so}
 use Rattle.reception.specs.Receiving.{received}
 use Rattle.reception.proofs.Orders.{unanswered, is-planned, settles}
-use Rattle.reception.proofs.Places.{rolls, is-named}
-use Rattle.reception.proofs.Words.{put-within}
+use Rattle.reception.proofs.Places.{rolls}
+use Rattle.table.proofs.Words.{put-within}
 use borrow.Author.Needs.{needs}
 use Rattle.reception.proofs.receiving.admit_known.Statement.{statement}
 use Rattle.reception.proofs.receiving.admit_known.Tie as tie
-
-row-named-requires : tie.Need-row-named-requires
-row-named-requires c κs = (c .before .before .before .before .before .before .before .before .before .pre .1, is-named _ _ _ _ (c .before .before .before .before .before .before .before .before .before .pre .0) (c .before .before .before .before .before .before .before .before .before .pre .1))
 
 returns : tie.Need-returns
 returns c = unanswered _ _ _ _ _ _ _ _ _ (c .before .before .before .before .before .acknowledge .ensures .0) (c .before .answer .given .1) (c .before .before .before .before .before .acknowledge .ensures .1) refl
@@ -24,7 +21,7 @@ returns-2 c =
     let pre = c .before .before .before .before .before .before .before .before .before .before .before .before .before .before .before .pre in
     let value = acknowledgementOf (a .own) (a .sender) (a .id) (a .m) in
     let p = is-planned value (length (a .out .now)) (a .sender) (a .m) (a .table .now) _ (so (c .before .before .before .before .before .before .before .before .before .before .before .before .acknowledge .ensures .0) (c .before .before .before .before .before .before .before .before .answer2 .given .1)) in
-    let r = rolls _ _ _ _ _ _ _ (pre .0) (pre .1) (c .before .before .before .before .before .row-named .ensures) (c .before .before .before .before .rolled .ensures) in
+    let r = rolls _ _ _ _ _ _ _ (pre .0) (pre .1) (c .before .before .before .before .before .row-under .ensures) (c .before .before .before .before .rolled .ensures) in
     settles value (a .sender) (a .m) (a .table .now) (a .out .now) _ p _ _ _ _ _ (r .0) (r .1) (pre .1) (sym (ap (λ (v : Verdict). received 0 v (a .m) (c .before .before .before .before .before .before .before .before .answer2 .given .0 .0)) (c .before .before .enum-told .given .1)))
     (c .put-row .ensures ∙ put-within _ _ _ (pre .1)) (c .before .before .before .before .before .before .before .before .before .before .before .before .acknowledge .ensures .1)
 
@@ -34,7 +31,7 @@ returns-3 c =
     let pre = c .before .before .before .before .before .before .before .before .before .before .before .before .before .pre in
     let value = acknowledgementOf (a .own) (a .sender) (a .id) (a .m) in
     let p = is-planned value (length (a .out .now)) (a .sender) (a .m) (a .table .now) _ (so (c .before .before .before .before .before .before .before .before .before .before .acknowledge .ensures .0) (c .before .before .before .before .before .before .answer2 .given .1)) in
-    let r = rolls _ _ _ _ _ _ _ (pre .0) (pre .1) (c .before .before .before .row-named .ensures) (c .before .before .rolled .ensures) in
+    let r = rolls _ _ _ _ _ _ _ (pre .0) (pre .1) (c .before .before .before .row-under .ensures) (c .before .before .rolled .ensures) in
     settles value (a .sender) (a .m) (a .table .now) (a .out .now) _ p _ _ _ _ _ (r .0) (r .1) (pre .1) (sym (ap (λ (v : Verdict). received 0 v (a .m) (c .before .before .before .before .before .before .answer2 .given .0 .0)) (c .enum-told2 .given .1))) refl
     (c .before .before .before .before .before .before .before .before .before .before .acknowledge .ensures .1)
 
@@ -45,7 +42,7 @@ admit-known-spec =
     (λ c κs. search needs)
     (λ c. search needs)
     (λ c. search needs)
-    row-named-requires
+    (λ c κs. search needs)
     (λ c κs. search needs)
     (λ c. search needs)
     (λ c κs. search needs)

@@ -1,0 +1,69 @@
+-- The table: rows in words, three to a row, and the search for one ("Rows and verdicts"). Assumes nothing.
+use Prim.Native.Nat.{ℕ, zero, suc, _+_, _*_, _/_, _%_, _^_}
+use mathlib.Core.Bool.{Bool, true, false, not, _&&_, cond}
+use mathlib.Core.List.{List}
+use lib.ListN.{getD, set}
+use lib.Dec.{eqb, ltb}
+use Rattle.window.specs.declared.Row.{Row}
+
+-- how many rows the gateway has
+abbrev pub rows : ℕ
+rows = 32
+
+-- a truth value as a bit
+abbrev pub bit : Bool → ℕ
+bit true = 1
+bit false = 0
+
+-- the row that stands in the words from 3 * i on: node, then highest id, key id and in-use bit in one word, then the marks
+unfoldable pub rowOf : List ℕ → ℕ → Row
+rowOf t i =
+    record {
+      used = eqb (getD t (3 * i + 1) 0 / 2 ^ 48 % 2) 1;
+      node = getD t (3 * i) 0;
+      key = getD t (3 * i + 1) 0 / 2 ^ 32 % 2 ^ 16;
+      highest = getD t (3 * i + 1) 0 % 2 ^ 32;
+      marks = getD t (3 * i + 2) 0 % 2 ^ 16;
+    }
+
+-- the table with a row put there: three words, and no others
+unfoldable pub withRow : List ℕ → ℕ → Row → List ℕ
+withRow t i row =
+    set (set (set t (3 * i) (row .node)) (3 * i + 1) (bit (row .used) * 2 ^ 48 + (row .key * 2 ^ 32 + row .highest))) (3 * i + 2) (row .marks)
+
+-- a free row of zeros, as removal leaves it
+abbrev pub freed : Row
+freed = record { used = false; node = 0; key = 0; highest = 0; marks = 0 }
+
+-- the row at any number: past the last it is free and zero
+unfoldable pub rowAt : List ℕ → ℕ → Row
+rowAt t i = cond (ltb i rows) (rowOf t i) freed
+
+-- the table with a row put at any number: past the last nothing changes
+unfoldable pub putAt : List ℕ → ℕ → Row → List ℕ
+putAt t i row = cond (ltb i rows) (withRow t i row) t
+
+-- the least number below n at which p holds, or n
+unfoldable pub firstBelow : ℕ → (ℕ → Bool) → ℕ
+firstBelow zero p = 0
+firstBelow (suc n) p = cond (p 0) 0 (suc (firstBelow n (λ k. p (suc k))))
+
+-- a row in use under this name: only such a row is found
+abbrev pub named : ℕ → ℕ → Row → Bool
+named node key row = row .used && eqb (row .node) node && eqb (row .key) key
+
+-- a row in use under this name, with the ids of another
+abbrev pub under : ℕ → ℕ → Row → Row
+under node key row = record { used = true; node = node; key = key; highest = row .highest; marks = row .marks }
+
+-- a row that is not in use
+abbrev pub isFree : Row → Bool
+isFree row = not (row .used)
+
+-- of n rows, the first that is in use under this name, or n
+unfoldable pub findOf : ℕ → List ℕ → ℕ → ℕ → ℕ
+findOf n t node key = firstBelow n (λ i. named node key (rowOf t i))
+
+-- of n rows, the lowest-numbered free one, or n
+unfoldable pub freeOf : ℕ → List ℕ → ℕ
+freeOf n t = firstBelow n (λ i. isFree (rowOf t i))
