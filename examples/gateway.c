@@ -7,10 +7,9 @@
 #include <kabizarle.h>
 #include <stdio.h>
 
-/* The own node; the link's node, of which nothing is known; the message id of the acknowledgements. */
+/* The own node; the link's node, of which nothing is known. */
 static const uint64_t OWN_NODE = 0x0200000000000001;
 static const uint64_t LINK_NODE = 0;
-static const uint32_t REPLY_ID = 0;
 
 /* How much of the input is read, and the room for an acknowledgement. */
 enum { MOST = 65536, ROOM = 64 };
@@ -27,12 +26,12 @@ static bool send_reply(FILE *replies, const uint8_t *reply, size_t length)
 }
 
 /* Receives one message and prints its line. A duplicate is acknowledged again: its sender may not have heard the first. */
-static bool hear(uint64_t *table, unsigned long ordinal, const uint8_t *message, size_t length, FILE *replies)
+static bool hear(uint64_t *table, uint32_t *next_id, unsigned long ordinal, const uint8_t *message, size_t length, FILE *replies)
 {
 	uint8_t reply[ROOM];
 	uint64_t fields[KABIZARLE_FIELDS];
 	/* The check of an encrypted message counts as passed: here the radio module's own answer belongs. */
-	uint32_t refusal = kabizarle_receive(OWN_NODE, LINK_NODE, true, REPLY_ID, message, length, table, reply, sizeof reply, fields);
+	uint32_t refusal = kabizarle_receive(OWN_NODE, LINK_NODE, true, *next_id, message, length, table, reply, sizeof reply, fields);
 
 	if (refusal != 0)
 		return printf("%lu refused %u\n", ordinal, (unsigned)refusal) > 0;
@@ -40,9 +39,10 @@ static bool hear(uint64_t *table, unsigned long ordinal, const uint8_t *message,
 	if (printf("%lu %s %lu\n", ordinal, verdict, (unsigned long)fields[KABIZARLE_ID]) < 0)
 		return false;
 	/* A new message would be acted on here; its payload starts at message + fields[KABIZARLE_PAYLOAD_START]. */
-	if (!replies || fields[KABIZARLE_REPLY_LENGTH] == 0)
+	if (fields[KABIZARLE_REPLY_LENGTH] == 0)
 		return true;
-	return send_reply(replies, reply, fields[KABIZARLE_REPLY_LENGTH]);
+	++*next_id; /* each acknowledgement has an id of its own */
+	return !replies || send_reply(replies, reply, fields[KABIZARLE_REPLY_LENGTH]);
 }
 
 /* Lists a stream, from an empty table on. */
@@ -50,13 +50,14 @@ static bool list(const uint8_t *stream, size_t length, FILE *replies)
 {
 	uint64_t table[KABIZARLE_TABLE_WORDS] = { 0 };
 	uint64_t frame[KABIZARLE_FRAME_PLACES];
+	uint32_t next_id = 0;
 
 	for (unsigned long ordinal = 1;; ordinal++) {
 		if (kabizarle_unframe(stream, length, frame) != 0)
 			return false;
 		if (frame[KABIZARLE_FRAME_WANTED] != 0)
 			return printf("end %zu\n", length) > 0;
-		if (!hear(table, ordinal, stream + frame[KABIZARLE_FRAME_START], frame[KABIZARLE_FRAME_LENGTH], replies))
+		if (!hear(table, &next_id, ordinal, stream + frame[KABIZARLE_FRAME_START], frame[KABIZARLE_FRAME_LENGTH], replies))
 			return false;
 		stream += frame[KABIZARLE_REST_START];
 		length = frame[KABIZARLE_REST_LENGTH];

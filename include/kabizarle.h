@@ -2,7 +2,7 @@
  * tells a message heard before from a new one, and the acknowledgement. The archive is for x86-64.
  *
  * Answers.   Every function gives the number of the first refusal that applies, 0 for none. A refused call leaves all that it
- *            was lent as it was. Any bytes, numbers and table contents get an answer; nothing need be checked beforehand.
+ *            was lent as it was. Any bytes, numbers and table contents get an answer; what they hold need not be checked.
  * Memory.    The caller owns all of it. The library has no heap and no global state, and keeps no pointer after a call.
  *            An array is lent at its full size, and no two arrays that are lent to one call may overlap. A pointer whose
  *            length is 0 may be NULL; no other may.
@@ -117,27 +117,29 @@ extern "C" {
 #define KABIZARLE_REFUSED_NO_ROW 21      /* the name to be removed has no row */
 #define KABIZARLE_REFUSED_UNWRITABLE 22  /* the acknowledgement cannot be written, for a reason other than its room */
 
-/* Says which part of a message the radio module has to open. */
+/* Says which part of a message the radio module has to open. Refuses with 1 to 9. */
 uint32_t kabizarle_read_outer(const uint8_t *bytes, size_t length, uint64_t part[KABIZARLE_PART_PLACES]);
 
-/* Reads a message into all places of `fields`. */
+/* Reads a message into all places of `fields`. Refuses with 1 to 13. */
 uint32_t kabizarle_read(const uint8_t *bytes, size_t length, uint64_t fields[KABIZARLE_FIELDS]);
 
-/* Writes the message of places HEADER to ACKNOWLEDGED, with its payload and check; `written` gets its length. */
+/* Writes the message of places HEADER to ACKNOWLEDGED, with its payload and check; `written` gets its length. A number that its field
+ * cannot hold is refused with 14 before all else; then 1 to 3, 5 to 9, 11, 13, 14 and 19. */
 uint32_t kabizarle_write(const uint64_t fields[KABIZARLE_FIELDS], const uint8_t *payload, size_t payload_length,
                          const uint8_t *check, size_t check_length, uint8_t *out, size_t room, uint64_t *written);
 
 /* Finds the first message of a framed stream and the rest, or how many bytes are still wanted; never refuses. */
 uint32_t kabizarle_unframe(const uint8_t *stream, size_t length, uint64_t frame[KABIZARLE_FRAME_PLACES]);
 
-/* Writes a message with its length before it; `written` gets the length of both. */
+/* Writes a message with its length before it; `written` gets the length of both. Refuses with 1 and 19. */
 uint32_t kabizarle_frame(const uint8_t *message, size_t length, uint8_t *out, size_t room, uint64_t *written);
 
-/* Reads a message, moves its row and writes the acknowledgement that it wants, with message id `id`, to `out`. */
+/* Reads a message, moves its row and writes the acknowledgement that it wants to `out`; `id` is that one's message id, a new one for each.
+ * Refuses with 1 to 13, 15 to 20 and 22. */
 uint32_t kabizarle_receive(uint64_t own, uint64_t link, bool passed, uint32_t id, const uint8_t *bytes, size_t length,
                            uint64_t table[KABIZARLE_TABLE_WORDS], uint8_t *out, size_t room, uint64_t fields[KABIZARLE_FIELDS]);
 
-/* Frees the row of a name, which is a node and a key id. */
+/* Frees the row of a name, which is a node and a key id. Refuses with 21. */
 uint32_t kabizarle_remove(uint64_t table[KABIZARLE_TABLE_WORDS], uint64_t node, uint16_t key);
 
 /* Rolls one row, which may be one of a table's, forward by one message id; `verdict` gets its verdict; never refuses. */
