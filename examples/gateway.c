@@ -7,7 +7,7 @@
 #include <kabizarle.h>
 #include <stdio.h>
 
-/* The own node; the link's node, of which nothing is known. */
+/* The own node, for your gateway's to be put in; the link's node, of which nothing is known. */
 static const uint64_t OWN_NODE = 0x0200000000000001;
 static const uint64_t LINK_NODE = 0;
 

@@ -6,6 +6,9 @@
  * Memory.    The caller owns all of it. The library has no heap and no global state, and keeps no pointer after a call.
  *            An array is lent at its full size, and no two arrays that are lent to one call may overlap. A pointer whose
  *            length is 0 may be NULL; no other may.
+ * Lengths.   Any number is a length. What is longer than a message can be is refused and not read, but for the first byte of
+ *            a payload; of a stream the first two bytes are read. No more of a room is written than is needed. Past PTRDIFF_MAX,
+ *            which no object has, this is tested and not proved.
  * Threads.   One caller at a time for one table; calls with different tables may run at once.
  * The table. KABIZARLE_TABLE_WORDS words; all zero is the empty table. Its rows are KABIZARLE_ROW_WORDS words each.
  * Nodes.     A node is a number, EUI[0] its most significant byte: 02 00 00 00 00 00 00 01 is 0x0200000000000001.
@@ -66,8 +69,8 @@ extern "C" {
 
 /* Verdicts. */
 #define KABIZARLE_NONE 0      /* none was asked for */
-#define KABIZARLE_NEW 1       /* heard for the first time: act on it */
-#define KABIZARLE_DUPLICATE 2 /* heard before: acknowledge it again, and no more */
+#define KABIZARLE_NEW 1       /* not heard before, as far as its row can tell: act on it */
+#define KABIZARLE_DUPLICATE 2 /* heard before, or too far behind to tell: acknowledge it again, and no more */
 
 /* Places of an outer reading. */
 #define KABIZARLE_PART_START 0  /* where the protected part starts; the end of a plain message */
@@ -124,22 +127,28 @@ uint32_t kabizarle_read_outer(const uint8_t *bytes, size_t length, uint64_t part
 uint32_t kabizarle_read(const uint8_t *bytes, size_t length, uint64_t fields[KABIZARLE_FIELDS]);
 
 /* Writes the message of places HEADER to ACKNOWLEDGED, with its payload and check; `written` gets its length. A number that its field
- * cannot hold is refused with 14 before all else; then 1 to 3, 5 to 9, 11, 13, 14 and 19. */
+ * cannot hold, as a header with a reserved bit, is refused with 14 before all else; then 1 to 3, 5 to 9, 11, 13, 14 and 19. */
 uint32_t kabizarle_write(const uint64_t fields[KABIZARLE_FIELDS], const uint8_t *payload, size_t payload_length,
                          const uint8_t *check, size_t check_length, uint8_t *out, size_t room, uint64_t *written);
 
 /* Finds the first message of a framed stream and the rest, or how many bytes are still wanted; never refuses. */
 uint32_t kabizarle_unframe(const uint8_t *stream, size_t length, uint64_t frame[KABIZARLE_FRAME_PLACES]);
 
-/* Writes a message with its length before it; `written` gets the length of both. Refuses with 1 and 19. */
+/* Writes a message with its length before it; `written` gets the length of both. The message may not stand in `out`: it is not framed
+ * in place. Refuses with 1 and 19. */
 uint32_t kabizarle_frame(const uint8_t *message, size_t length, uint8_t *out, size_t room, uint64_t *written);
 
-/* Reads a message, moves its row and writes the acknowledgement that it wants to `out`; `id` is that one's message id, a new one for each.
- * Refuses with 1 to 13, 15 to 20 and 22. */
+/* Reads a message, gives its verdict, moves its row and writes the acknowledgement that it wants. Refuses with 1 to 13, 15 to 20 and 22.
+ *   own     the gateway's own node
+ *   link    the node at the other end of the link, the sender of a message without a source; 0 if it is not known
+ *   passed  what the radio module says of the check of an encrypted message; not looked at for a plain one
+ *   id      the message id of the acknowledgement, a new one for each
+ *   bytes   the message, opened by the radio module if it is encrypted
+ *   out     where the acknowledgement goes: 34 bytes, encrypted 56, and none where fields[KABIZARLE_REPLY_LENGTH] is 0 */
 uint32_t kabizarle_receive(uint64_t own, uint64_t link, bool passed, uint32_t id, const uint8_t *bytes, size_t length,
                            uint64_t table[KABIZARLE_TABLE_WORDS], uint8_t *out, size_t room, uint64_t fields[KABIZARLE_FIELDS]);
 
-/* Frees the row of a name, which is a node and a key id. Refuses with 21. */
+/* Frees the row of a name: the NODE and the KEY of kabizarle_row, the key as a uint16_t. Refuses with 21. */
 uint32_t kabizarle_remove(uint64_t table[KABIZARLE_TABLE_WORDS], uint64_t node, uint16_t key);
 
 /* Rolls one row, which may be one of a table's, forward by one message id; `verdict` gets its verdict; never refuses. */

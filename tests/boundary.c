@@ -187,31 +187,66 @@ static void empty_slices(void)
 	MUST(lent.fields[KABIZARLE_VERDICT] == KABIZARLE_NEW && lent.fields[KABIZARLE_REPLY_LENGTH] == 0);
 }
 
-/* Lengths past the longest message, up to the largest that an object can have. Of a message that is too long nothing is read; of a
- * payload writing may look at the first byte, and of a stream unframing looks at the first two. */
+/* Lengths that no message has, up to the largest number. With one of the last five a sum of lengths can wrap. */
+static const size_t TOO_LONG[] = {
+	KABIZARLE_LONGEST + 1, UINT16_MAX + (size_t)31, UINT32_MAX + (size_t)31, PTRDIFF_MAX, (size_t)PTRDIFF_MAX + 1,
+	SIZE_MAX - KABIZARLE_LONGEST, SIZE_MAX - 75, SIZE_MAX - 29, SIZE_MAX - 1, SIZE_MAX,
+};
+
+/* Of a message that is too long nothing is read, and of a stream the first two bytes. */
 static void largest_lengths(void)
 {
-	static const size_t lengths[] = { KABIZARLE_LONGEST + 1, UINT16_MAX + (size_t)31, UINT32_MAX + (size_t)31, PTRDIFF_MAX };
-	static const uint8_t longest[KABIZARLE_LONGEST] = { 0x00, 0x20, [6] = 0x10 };
+	for (size_t i = 0; i < LENGTH(TOO_LONG); i++) {
+		size_t length = TOO_LONG[i];
 
-	for (size_t i = 0; i < LENGTH(lengths); i++) {
 		start();
-		REFUSED(1, kabizarle_read_outer(read_end, lengths[i], lent.part));
-		REFUSED(1, kabizarle_read(read_end, lengths[i], lent.fields));
-		REFUSED(1, receive(read_end, lengths[i]));
-		REFUSED(1, kabizarle_frame(read_end, lengths[i], lent.out, sizeof lent.out, &lent.written));
-		MUST(kabizarle_read(SECRET, sizeof SECRET, lent.fields) == 0);
-		REFUSED(1, kabizarle_write(lent.fields, lend(X, 1), lengths[i], SECRET, 20, lent.out, sizeof lent.out, &lent.written));
-		REFUSED(14, kabizarle_write(lent.fields, SECRET, 3, read_end, lengths[i], lent.out, sizeof lent.out, &lent.written));
-		MUST(kabizarle_unframe(lend(X, 2), lengths[i], lent.frame) == 0);
-		MUST(lent.frame[KABIZARLE_FRAME_WANTED] == (lengths[i] < 0x2302 ? 0x2302 - lengths[i] : 0));
+		REFUSED(1, kabizarle_read_outer(read_end, length, lent.part));
+		REFUSED(1, kabizarle_read(read_end, length, lent.fields));
+		REFUSED(1, receive(read_end, length));
+		REFUSED(1, kabizarle_frame(read_end, length, lent.out, sizeof lent.out, &lent.written));
+		MUST(kabizarle_unframe(lend(X, 2), length, lent.frame) == 0);
+		MUST(lent.frame[KABIZARLE_FRAME_WANTED] == (length < 0x2302 ? 0x2302 - length : 0));
+		if (length >= 0x2302)
+			MUST(lent.frame[KABIZARLE_REST_START] == 0x2302 && lent.frame[KABIZARLE_REST_LENGTH] == length - 0x2302);
 	}
-	MUST(lent.frame[KABIZARLE_FRAME_LENGTH] == 0x2300 && lent.frame[KABIZARLE_REST_START] == 0x2302);
-	MUST(lent.frame[KABIZARLE_REST_LENGTH] == PTRDIFF_MAX - 0x2302);
-	MUST(kabizarle_read(lend(longest, sizeof longest), sizeof longest, lent.fields) == 0);
-	MUST(lent.fields[KABIZARLE_PAYLOAD_LENGTH] == KABIZARLE_LONGEST - 14);
-	MUST(kabizarle_write(lent.fields, longest + 14, KABIZARLE_LONGEST - 14, NULL, 0, write_end - KABIZARLE_LONGEST, PTRDIFF_MAX, &lent.written) == 0);
-	MUST(lent.written == KABIZARLE_LONGEST && memcmp(write_end - KABIZARLE_LONGEST, longest, KABIZARLE_LONGEST) == 0);
+}
+
+/* Such a payload or check of a message to be written: nothing is written, whatever the sum of the lengths. Of a payload the first byte may be
+ * looked at; here it is a packet's. */
+static void largest_payloads(const uint8_t *message, size_t message_length)
+{
+	static const size_t rooms[] = { 0, 40, sizeof lent.out };
+	const uint8_t *first = lend((const uint8_t[]){ 0x45 }, 1);
+
+	scatter();
+	MUST(kabizarle_read(message, message_length, lent.fields) == 0);
+	size_t check = lent.fields[KABIZARLE_CHECK_LENGTH];
+	for (size_t i = 0; i < LENGTH(rooms); i++) {
+		for (size_t k = 0; k < LENGTH(TOO_LONG); k++) {
+			REFUSED(1, kabizarle_write(lent.fields, first, TOO_LONG[k], SECRET, check, lent.out, rooms[i], &lent.written));
+			REFUSED(14, kabizarle_write(lent.fields, first, 1, read_end, TOO_LONG[k], lent.out, rooms[i], &lent.written));
+		}
+		for (size_t less = 0; less < 80; less++)
+			REFUSED(1, kabizarle_write(lent.fields, first, SIZE_MAX - less, SECRET, check, lent.out, rooms[i], &lent.written));
+	}
+}
+
+/* Such a room: no more is written than the message has. */
+static void largest_rooms(void)
+{
+	static const uint8_t longest[KABIZARLE_LONGEST] = { 0x00, 0x20, [6] = 0x10 };
+	uint8_t *out = write_end - KABIZARLE_LONGEST;
+
+	for (size_t i = 0; i < LENGTH(TOO_LONG); i++) {
+		start();
+		MUST(kabizarle_frame(X, sizeof X, write_end - sizeof X - 2, TOO_LONG[i], &lent.written) == 0 && lent.written == sizeof X + 2);
+		MUST(kabizarle_receive(OWN, 0, true, REPLY_ID, X, sizeof X, lent.table, write_end - sizeof REPLY, TOO_LONG[i], lent.fields) == 0);
+		MUST(memcmp(write_end - sizeof REPLY, REPLY, sizeof REPLY) == 0);
+		MUST(kabizarle_read(lend(longest, sizeof longest), sizeof longest, lent.fields) == 0);
+		MUST(lent.fields[KABIZARLE_PAYLOAD_LENGTH] == KABIZARLE_LONGEST - 14);
+		MUST(kabizarle_write(lent.fields, longest + 14, KABIZARLE_LONGEST - 14, NULL, 0, out, TOO_LONG[i], &lent.written) == 0);
+		MUST(lent.written == KABIZARLE_LONGEST && memcmp(out, longest, KABIZARLE_LONGEST) == 0);
+	}
 	REFUSED(1, kabizarle_write(lent.fields, longest, KABIZARLE_LONGEST - 13, NULL, 0, lent.out, sizeof lent.out, &lent.written));
 }
 
@@ -512,6 +547,10 @@ int main(void)
 	cuts();
 	empty_slices();
 	largest_lengths();
+	largest_payloads(X, sizeof X);
+	largest_payloads(SECRET, sizeof SECRET);
+	largest_payloads(TUNNEL, sizeof TUNNEL);
+	largest_rooms();
 	places();
 	there_and_back(X, sizeof X);
 	there_and_back(REPLY, sizeof REPLY);

@@ -7,12 +7,16 @@ mod print;
 mod rows;
 
 use libc::STDIN_FILENO;
+use table::WORDS;
 
 // How many commands are answered at most.
 const MOST: usize = 16_000_000;
 
+// The command that empties the table.
+const EMPTY: u8 = 7;
+
 // One command: its name, its body, and the table that the commands share.
-fn command(name: u8, text: &[u8], table: &mut [u64; 96]) {
+fn command(name: u8, text: &[u8], table: &mut [u64; WORDS]) {
     match name {
         1 => messages::read(text),
         2 => messages::outer(text),
@@ -43,7 +47,7 @@ fn cut(head: usize, len: usize, got: usize) -> bool {
 }
 
 // Reads one command into the space and answers it.
-fn step(space: &mut [u8], table: &mut [u64; 96]) -> Next {
+fn step(space: &mut [u8], table: &mut [u64; WORDS]) -> Next {
     let head = io::read_full(STDIN_FILENO, body::part_mut(space, 2));
     if head == 0 {
         return Next::End;
@@ -61,7 +65,7 @@ fn step(space: &mut [u8], table: &mut [u64; 96]) -> Next {
         return Next::Go;
     }
     command(name, body::rest(text, 1), table);
-    if name == 7 {
+    if name == EMPTY {
         return Next::Empty;
     }
     Next::Go
@@ -69,7 +73,7 @@ fn step(space: &mut [u8], table: &mut [u64; 96]) -> Next {
 
 // Answers commands until the input ends, or MOST of them.
 fn main() {
-    let mut table = [0u64; 96];
+    let mut table = [0u64; WORDS];
     let mut space = io::large_buffer();
     let mut left = MOST;
     while 0 < left {
@@ -77,7 +81,7 @@ fn main() {
         match next {
             Next::End => return,
             Next::Go => {}
-            Next::Empty => table = [0u64; 96],
+            Next::Empty => table = [0u64; WORDS],
         }
         left -= 1;
     }

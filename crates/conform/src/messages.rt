@@ -20,18 +20,18 @@ pub(crate) fn bad() {
 pub(crate) fn read(message: &[u8]) {
     let reading = reader::read(message);
     match reading {
-        Reading::Taken(m) => {
+        Reading::Taken(m, _) => {
             print::word(b"taken");
             print::value(m);
         }
         Reading::Refused(refusal) => print::refused(refusal.number),
     }
-    print::string(reader::payload(message, reading));
-    print::string(reader::check(message, reading));
+    print::string(parts::payload(message, reading));
+    print::string(parts::check(message, reading));
 }
 
 pub(crate) fn outer(message: &[u8]) {
-    let reading = reader::read_outer(message);
+    let reading = outer::read_outer(message);
     match reading {
         OuterReading::Protected(start, len) => {
             print::word(b"outer");

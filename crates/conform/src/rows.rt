@@ -6,6 +6,7 @@ use crate::print;
 use libc::STDOUT_FILENO;
 use reception::Received;
 use reception::Removed;
+use table::WORDS;
 use window::Row;
 use window::Verdict;
 
@@ -50,25 +51,25 @@ pub(crate) fn roll(command: &[u8]) {
     shown(row);
 }
 
-pub(crate) fn put(command: &[u8], table: &mut [u64; 96]) {
+pub(crate) fn put(command: &[u8], table: &mut [u64; WORDS]) {
     let number = body::byte(command, 0) as usize;
-    if (command.len() < 1 + RECORD) | (reception::ROWS <= number) {
+    if (command.len() < 1 + RECORD) | (table::ROWS <= number) {
         return bad();
     }
-    reception::put_row(table, number, record(body::rest(command, 1)));
+    table::put_row(table, number, record(body::rest(command, 1)));
     print::word(b"put");
 }
 
 // What receiving answered, and the buffer after it.
 fn received(answer: Received, buffer: &[u8]) {
     match answer {
-        Received::New(m, n) => {
+        Received::New(m, _, n) => {
             print::word(b"new");
             print::number(n as u64);
             print::string(buffer);
             print::value(m);
         }
-        Received::Duplicate(m, n) => {
+        Received::Duplicate(m, _, n) => {
             print::word(b"duplicate");
             print::number(n as u64);
             print::string(buffer);
@@ -81,7 +82,7 @@ fn received(answer: Received, buffer: &[u8]) {
     }
 }
 
-pub(crate) fn receive(command: &[u8], table: &mut [u64; 96]) {
+pub(crate) fn receive(command: &[u8], table: &mut [u64; WORDS]) {
     let room = body::word(command, 21) as usize;
     if (command.len() < 23) | (messages::ROOM < room) {
         return bad();
@@ -103,7 +104,7 @@ pub(crate) fn receive(command: &[u8], table: &mut [u64; 96]) {
     received(answer, body::part(&space, 0, room));
 }
 
-pub(crate) fn remove(command: &[u8], table: &mut [u64; 96]) {
+pub(crate) fn remove(command: &[u8], table: &mut [u64; WORDS]) {
     if command.len() < 10 {
         return bad();
     }
@@ -133,9 +134,9 @@ fn listed(number: usize, row: Row) {
     io::print_decimal(STDOUT_FILENO, row.marks as u64);
 }
 
-pub(crate) fn rows(table: &[u64; 96]) {
+pub(crate) fn rows(table: &[u64; WORDS]) {
     print::word(b"rows");
-    for number in 0..reception::ROWS {
-        listed(number, reception::row_at(table, number));
+    for number in 0..table::ROWS {
+        listed(number, table::row_at(table, number));
     }
 }

@@ -1,24 +1,25 @@
 -- What was read is not refused for writing, and has the length of the bytes. Assumes nothing.
-use Prim.Native.Nat.{ℕ, zero, suc, _+_, _-_, _≤_, _<_}
-use mathlib.Core.Path.{_≡_, refl, sym, ap, ap₂, subst, _∙_}
+use Prim.Native.Nat.{ℕ, _+_, _-_, _≤_, _<_}
+use mathlib.Core.Path.{_≡_, refl, ap, ap₂, subst, _∙_}
 use mathlib.Core.Bool.{Bool, true, false, not, _&&_, _||_, cond}
 use mathlib.Core.List.{List}
 use native.Mathlib.Omega.{arith}
 use native.Mathlib.Nat.{add-zero}
 use lib.ListN.{length, getD}
 use lib.Seq.{getD-take, getD-drop}
-use lib.Dec.{eqb, ltb}
+use lib.Dec.{eqb}
 use borrow.Author.Tests.{ne-eqb, eq-eqb, le-ltb}
 use Rattle.wire.specs.Bytes.{part, little, big}
 use Rattle.message.specs.Order.{first}
-use Rattle.message.specs.Layout.{only, bodyOf, headLength, checkLength, fixedLength, sourceAt, destinationAt, keyAt}
-use Rattle.message.specs.Value.{bits, bit, header, placeOf, exchangeHeader, valueAt, messageOf}
+use Rattle.message.specs.Layout.{only, bodyOf, headLength, checkLength, destinationAt, keyAt}
+use Rattle.message.specs.Value.{bits, bit, header, bodyBy, exchangeHeader, addressOf, exchangedBy, messageOf}
 use Rattle.message.specs.Refusals.{oldAsks, badPacket, strayAddress, strayExchange, stray, emptyPacket, wrongPacket, total}
 use Rattle.message.specs.Answers.{writing}
-use Rattle.reader.specs.Reading.{readOf, payloadOf, checkOf}
-use Rattle.writer.specs.Writing.{writingOrder, writeOf}
+use Rattle.reader.specs.Reading.{readOf}
+use Rattle.parts.specs.Parts.{payloadOf, checkOf}
+use Rattle.judge.specs.Writing.{writingOrder, writeOf}
 use Rattle.message.specs.declared.value.Message.{Message}
-use Rattle.message.specs.declared.answers.Reading.the-variants.{Taken}
+use Rattle.message.specs.Answers.{asTaken}
 use Rattle.message.specs.declared.answers.Writing.the-variants.{Written}
 use Rattle.message.proofs.Logic.{when-true}
 use Rattle.reader.proofs.Clear.{Clear, taken, fits}
@@ -40,7 +41,7 @@ tunnel-room : (t a : Bool) (body check n : ℕ) → t ≡ true → body + cond t
 tunnel-room true a body check n e h = omega arith
 tunnel-room false a body check n e h = let y : _≡_ {A = ℕ} 0 1 = cc e in let w : ⊥ = omega arith in absurd w
 
-module _ (bs : List ℕ) (e : readOf bs ≡ Taken (messageOf bs)) where
+module _ (bs : List ℕ) (e : readOf bs ≡ asTaken (messageOf bs)) where
   k : Clear bs (messageOf bs)
   k = taken bs (messageOf bs) e .1
 
@@ -54,10 +55,10 @@ module _ (bs : List ℕ) (e : readOf bs ≡ Taken (messageOf bs)) where
   length-is = let h = whole in let l = payload-length in total-is (messageOf bs) (payloadOf bs (readOf bs)) ∙ omega arith
 
   no-exchange : bit (header bs) 10 ≡ true → exchangeHeader bs ≡ 0
-  no-exchange t = ap (λ (b : Bool). little (part bs (placeOf (header bs)) (only (not b) 1))) t
+  no-exchange t = ap (λ (b : Bool). little (part bs (bodyBy (header bs)) (only (not b) 1))) t
 
   asks : oldAsks (messageOf bs .version) (messageOf bs .acknowledges) (messageOf bs .wants) ≡ false
-  unfolding messageOf valueAt
+  unfolding messageOf exchangedBy addressOf
   asks = go (bit (header bs) 10) refl
     where
       go : (t : Bool) → bit (header bs) 10 ≡ t → oldAsks (messageOf bs .version) (messageOf bs .acknowledges) (messageOf bs .wants) ≡ false
@@ -87,7 +88,7 @@ module _ (bs : List ℕ) (e : readOf bs ≡ Taken (messageOf bs)) where
   packet = when-true _ _ (λ (t : messageOf bs .tunnelled ≡ true). ap badPacket (first-byte t) ∙ k .tunnel t .packet)
 
   no-stray-address : strayAddress (messageOf bs) ≡ false
-  unfolding messageOf valueAt
+  unfolding messageOf exchangedBy addressOf
   no-stray-address =
       let h = header bs in
       ap₂ _||_
@@ -96,11 +97,11 @@ module _ (bs : List ℕ) (e : readOf bs ≡ Taken (messageOf bs)) where
       (kept (eqb (bits h 4 4) 1) (little (part bs (keyAt (bit h 9) (bit h 8)) (only (eqb (bits h 4 4) 1) 2))) (little-absent bs _ 2 (eqb (bits h 4 4) 1)))
 
   no-stray-exchange : strayExchange (messageOf bs) ≡ false
-  unfolding messageOf valueAt
+  unfolding messageOf exchangedBy addressOf
   no-stray-exchange =
       let h = header bs in
       let x = exchangeHeader bs in
-      let at = placeOf h in
+      let at = bodyBy h in
       ap₂ _||_ (kept (bit x 1) (little (part bs (at + 8) (only (bit x 1) 4))) (little-absent bs _ 4 (bit x 1)))
       (when-true (bit h 10) _ (λ (t : bit h 10 ≡ true).
       ap₂ _||_ (ap₂ _||_ (ap₂ _||_ (ap (λ (n : ℕ). bit n 0 || bit n 1 || bit n 2) (no-exchange t))
@@ -123,8 +124,8 @@ module _ (bs : List ℕ) (e : readOf bs ≡ Taken (messageOf bs)) where
   accepted room h = ap₂ writing (write-zero room h) length-is
 
 -- what was read is written, given room, and as many bytes as were read
-pub accept : (bs : List ℕ) (m : Message) (room : ℕ) → readOf bs ≡ Taken m → length bs ≤ room
+pub accept : (bs : List ℕ) (m : Message) (room : ℕ) → readOf bs ≡ asTaken m → length bs ≤ room
     → writeOf m (payloadOf bs (readOf bs)) (checkOf bs (readOf bs)) room ≡ Written (length bs)
 accept bs m room e h =
-    subst (λ (v : Message). readOf bs ≡ Taken v → writeOf v (payloadOf bs (readOf bs)) (checkOf bs (readOf bs)) room ≡ Written (length bs)) (taken bs m e .0)
+    subst (λ (v : Message). readOf bs ≡ asTaken v → writeOf v (payloadOf bs (readOf bs)) (checkOf bs (readOf bs)) room ≡ Written (length bs)) (taken bs m e .0)
     (λ f. accepted bs f room h) e

@@ -1,17 +1,15 @@
 -- Framed, then unframed, and back; and what the bytes wanted do. Assumes nothing.
-use Prim.Native.Nat.{ℕ, zero, suc, _+_, _-_, _^_, _≤_, _<_}
+use Prim.Native.Nat.{ℕ, zero, suc, _+_, _-_, _≤_, _<_}
 use mathlib.Core.Path.{_≡_, refl, sym, ap, ap₂, _∙_}
-use mathlib.Core.List.{List, [], _∷_, _++_, append-assoc}
+use mathlib.Core.List.{List, _++_, append-assoc}
 use native.Mathlib.Omega.{arith}
-use native.Mathlib.Nat.{zero-add}
 use borrow.Author.Tests.{le-ltb, ltb-false}
-use lib.ListN.{length, getD, take, drop, length-append, length-take, length-drop, take-append-drop, List·getD-append}
-use lib.Seq.{take-at, drop-at, take-add, length-take-le, drop-drop}
+use lib.ListN.{length, take, drop, length-append, length-drop, take-append-drop, List·getD-append}
+use lib.Seq.{take-at, drop-at, take-add, length-take-le}
 use Rattle.wire.specs.Bytes.{part, little, littleBytes}
-use Rattle.wire.proofs.Digits.{AllBytes, little-of, length-little}
+use Rattle.wire.proofs.Digits.{AllBytes, little-of}
 use Rattle.wire.proofs.Fronts.{part-take}
 use Rattle.wire.proofs.Parts.{part-front, little-back}
-use Rattle.message.specs.Order.{first}
 use Rattle.message.specs.Answers.{writing}
 use Rattle.message.proofs.Order.{none-first}
 use Rattle.message.specs.declared.answers.Unframed.{Unframed}

@@ -3,6 +3,9 @@ pub mod HeaderBack
 pub mod HeaderForth
 pub mod ReadWrite
 pub mod Accepted
+pub mod Sized
+pub mod Between
+pub mod ValueBack
 pub mod WriteRead
 pub mod Framing
 pub mod Outer

@@ -23,10 +23,10 @@ use Rattle.message.specs.declared.answers.Writing.{Writing}
 use Rattle.message.specs.declared.answers.Unframed.{Unframed}
 use Rattle.wire.proofs.One.{both}
 use Rattle.reader.proofs.read as read
-use Rattle.reader.proofs.read_outer as outer
-use Rattle.reader.proofs.payload as payload
-use Rattle.reader.proofs.check as check
-use Rattle.writer.proofs.would_write as would
+use Rattle.outer.proofs.read_outer as outer
+use Rattle.parts.proofs.payload as payload
+use Rattle.parts.proofs.check as check
+use Rattle.judge.proofs.would_write as would
 use Rattle.writer.proofs.write as write
 use Rattle.writer.proofs.would_acknowledge as would-acknowledge
 use Rattle.writer.proofs.acknowledge as acknowledge

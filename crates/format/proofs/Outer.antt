@@ -7,11 +7,11 @@ use native.Mathlib.Omega.{arith}
 use lib.ListN.{length}
 use Rattle.message.specs.Order.{first}
 use Rattle.message.specs.Layout.{only, encrypted, bodyOf, fixedLength}
-use Rattle.message.specs.Value.{valueAt, messageOf}
+use Rattle.message.specs.Value.{addressOf, exchangedBy, messageOf}
 use Rattle.message.specs.Answers.{outerReading}
 use Rattle.message.specs.declared.answers.OuterReading.the-variants.{Protected}
-use Rattle.reader.specs.Reading.{outerOrder, startOf}
-use Rattle.reader.proofs.Begun.{outer-fixed}
+use Rattle.outer.specs.Outer.{outerOrder, startOf}
+use Rattle.outer.proofs.Begun.{outer-fixed}
 
 -- an answer with a part was made of no refusal and that part
 pub outer-place : (k s l start len : ℕ) → outerReading k s l ≡ Protected start len → (k ≡ 0) × (s ≡ start) × (l ≡ len)
@@ -30,7 +30,7 @@ pub record Protects (bytes : List ℕ) (start len : ℕ) : Type 0 where
   pub plain : encrypted (messageOf bytes) ≡ false → len ≡ 0
 
 fixed-part : (bytes : List ℕ) → first (outerOrder bytes (messageOf bytes)) ≡ 0 → fixedLength (messageOf bytes) ≤ length bytes
-unfolding messageOf valueAt
+unfolding messageOf exchangedBy addressOf
 fixed-part bytes z = outer-fixed bytes z
 
 pub protects : (bytes : List ℕ) (start len : ℕ) → first (outerOrder bytes (messageOf bytes)) ≡ 0 → startOf bytes (messageOf bytes) ≡ start

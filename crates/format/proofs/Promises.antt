@@ -2,6 +2,8 @@
 
 -- Only one outcome fits each public contract.
 pub use Rattle.format.proofs.Outcomes.{one-read, one-read-outer, one-payload, one-check, one-would-write, one-write, one-would-acknowledge, one-acknowledge, one-unframe, one-framed-message, one-framed-rest, one-frame}
+-- The value that bytes say, and so every value that reading takes, is within the types of its fields.
+pub use Rattle.format.proofs.Sized.{sized-of, read-is-sized}
 use Prim.Native.Nat.{ℕ, zero, suc, _+_, _-_, _≤_, _<_}
 use mathlib.Core.Path.{_≡_, refl, sym, ap, ap₂, _∙_}
 use mathlib.Core.Bool.{Bool, true, false, cond}
@@ -11,13 +13,13 @@ use native.Mathlib.Omega.{arith}
 use lib.ListN.{length, take, drop}
 use lib.Seq.{take-at}
 use Rattle.wire.proofs.Digits.{AllBytes}
-use Rattle.message.specs.Order.{Condition, first, noneOf}
-use Rattle.message.specs.Layout.{checkBytes, bodyAt}
+use Rattle.message.specs.Order.{Condition, first}
+use Rattle.message.specs.Layout.{only, checkBytes, bodyAt, encrypted, checkLength, headLength, fixedLength}
 use Rattle.message.specs.Value.{messageOf, bytesOf}
 use Rattle.message.specs.Refusals.{strayAddress, strayExchange, total}
-use Rattle.message.specs.Answers.{refusal, reading, outerReading, writing, readingNumber, outerNumber, writingNumber, bufferAfter}
+use Rattle.message.specs.Answers.{refusal, headOf, asTaken, reading, outerReading, writing, readingNumber, outerNumber, writingNumber, bufferAfter}
 use Rattle.message.specs.declared.value.Message.{Message}
-use Rattle.message.specs.declared.answers.Refusal.{Refusal}
+use Rattle.message.specs.declared.answers.Head.{Head}
 use Rattle.message.specs.declared.answers.Reading.{Reading}
 use Rattle.message.specs.declared.answers.Reading.the-variants as Reading
 use Rattle.message.specs.declared.answers.OuterReading.{OuterReading}
@@ -27,27 +29,30 @@ use Rattle.message.specs.declared.answers.Writing.the-variants as Writing
 use Rattle.message.specs.declared.answers.Unframed.the-variants.{Whole, Incomplete}
 use Rattle.message.proofs.Order.{FirstToHold, first-none, first-holds, holds-first, first-hit, first-pass}
 use Rattle.message.proofs.Lengths.{length-bytes}
-use Rattle.reader.specs.Reading.{outerOrder, bodyOrder, readingOrder, Legal, readOf, payloadOf, checkOf, startOf, outerOf}
-use Rattle.reader.proofs.Begun.{outer-numbered}
-use Rattle.reader.proofs.Clear.{taken-legal, taken}
-use Rattle.writer.specs.Writing.{writingOrder, Writable, writeOf}
-use Rattle.writer.proofs.Clear.{written-legal, written}
+use Rattle.outer.specs.Outer.{outerOrder, startOf, outerOf}
+use Rattle.reader.specs.Reading.{bodyOrder, readingOrder, Legal, readOf}
+use Rattle.parts.specs.Parts.{payloadOf, checkOf}
+use Rattle.outer.proofs.Begun.{outer-numbered}
+use Rattle.reader.proofs.Clear.{taken-legal, taken, head-taken}
+use Rattle.judge.specs.Writing.{writingOrder, Writable, writeOf}
+use Rattle.judge.proofs.Clear.{written-legal, written}
 use Rattle.stream.specs.Stream.{demanded, wanted, unframeOf, framedMessage, framedRest, frameBytes, framingOrder, frameOf}
 use Rattle.format.proofs.ReadWrite.{read-back}
 use Rattle.format.proofs.Accepted.{accept}
-use Rattle.format.proofs.WriteRead.{Sized, SameRead, write-read}
+use Rattle.format.proofs.Sized.{Sized}
+use Rattle.format.proofs.WriteRead.{SameRead, write-read}
 use Rattle.format.proofs.Framing as framing
 use Rattle.format.proofs.Outer.{Protects, outer-place, protects}
 
 -- ---- taken exactly when legal
 
--- Bytes are taken exactly when none of the conditions holds, and then with the value that the fields say.
-pub taken-when-legal : (bytes : List ℕ) → Legal bytes → readOf bytes ≡ Reading.Taken (messageOf bytes)
+-- Bytes are taken exactly when none of the conditions holds, and then with the value that the fields say and its head.
+pub taken-when-legal : (bytes : List ℕ) → Legal bytes → readOf bytes ≡ asTaken (messageOf bytes)
 unfolding readOf
 taken-when-legal bytes h = ap (λ (n : ℕ). reading n (messageOf bytes)) (first-none (readingOrder bytes) h)
 
-pub legal-when-taken : (bytes : List ℕ) (m : Message) → readOf bytes ≡ Reading.Taken m → Legal bytes × (messageOf bytes ≡ m)
-legal-when-taken bytes m e = (taken-legal bytes m e, taken bytes m e .0)
+pub legal-when-taken : (bytes : List ℕ) (m : Message) (h : Head) → readOf bytes ≡ Reading.Taken m h → Legal bytes × (messageOf bytes ≡ m) × (h ≡ headOf m)
+legal-when-taken bytes m h e = (taken-legal bytes m e, taken bytes m e .0, head-taken bytes m h e)
 
 -- A value is written exactly when none of the conditions holds, and then as many bytes as the message has.
 pub written-when-writable : (m : Message) (payload check : List ℕ) (room : ℕ) → Writable m payload check room → writeOf m payload check room ≡ Writing.Written (total m payload)
@@ -59,8 +64,19 @@ pub writable-when-written : (m : Message) (payload check : List ℕ) (room n : �
 writable-when-written m payload check room n e = (written-legal m payload check room n e, written m payload check room n e .0)
 
 -- The fixed part of a general message: 14 bytes, with both nodes 30, encrypted 36 and 52, the check included.
-pub fixed-lengths : (bodyAt false false false + 8 ≡ 14) × (bodyAt true true false + 8 ≡ 30) × (bodyAt false false true + 8 + checkBytes ≡ 36) × (bodyAt true true true + 8 + checkBytes ≡ 52)
-fixed-lengths = (refl, refl, refl, refl)
+pub fixed-lengths : (m : Message) → m .tunnelled ≡ false
+    → (m .sourced ≡ false → m .destined ≡ false → encrypted m ≡ false → fixedLength m ≡ 14)
+    × (m .sourced ≡ true → m .destined ≡ true → encrypted m ≡ false → fixedLength m ≡ 30)
+    × (m .sourced ≡ false → m .destined ≡ false → encrypted m ≡ true → fixedLength m ≡ 36)
+    × (m .sourced ≡ true → m .destined ≡ true → encrypted m ≡ true → fixedLength m ≡ 52)
+fixed-lengths m t = (by false false false, by true true false, by false false true, by true true true)
+  where
+    by : (s d e : Bool) → m .sourced ≡ s → m .destined ≡ d → encrypted m ≡ e → fixedLength m ≡ bodyAt s d e + (1 + 1 + 2 + 4) + only e checkBytes
+    by s d e x y z = λ i. bodyAt (x i) (y i) (z i) + cond (t i) (1 + 1) (1 + 1 + 2 + 4) + only (z i) checkBytes
+
+-- An acknowledged id adds 4: what a general message has besides its payload is its fixed part, and 4 bytes more where A is set.
+pub acknowledged-id-adds-4 : (m : Message) → m .tunnelled ≡ false → headLength m + checkLength m ≡ fixedLength m + only (m .acknowledges) 4
+acknowledged-id-adds-4 m t = omega (arith, ap (λ (b : Bool). cond b 1 (1 + 1 + 2 + 4 + only (m .acknowledges) 4)) t, ap (λ (b : Bool). cond b (1 + 1) (1 + 1 + 2 + 4)) t)
 
 -- ---- each refusal exactly when its condition is the first in its order to hold
 
@@ -139,7 +155,7 @@ module _ (message : List ℕ) (room n : ℕ) where
 -- ---- read, then written
 
 -- What was read is written with its payload and check, where there is room, to the same bytes, and the buffer's other bytes stay.
-pub read-then-written : (bytes old : List ℕ) → AllBytes bytes → (m : Message) → readOf bytes ≡ Reading.Taken m → length bytes ≤ length old
+pub read-then-written : (bytes old : List ℕ) → AllBytes bytes → (m : Message) → readOf bytes ≡ asTaken m → length bytes ≤ length old
     → let r = readOf bytes in
     let answer = writeOf m (payloadOf bytes r) (checkOf bytes r) (length old) in
     (answer ≡ Writing.Written (length bytes)) × (bufferAfter answer (bytesOf m (payloadOf bytes r) (checkOf bytes r)) old ≡ bytes ++ drop (length bytes) old)
@@ -148,7 +164,7 @@ read-then-written bytes old all m e h =
     (a, ap₂ (λ (w : Writing) (l : List ℕ). bufferAfter w l old) a (read-back bytes all m e))
 
 -- A value that was read has zero in every absent field, all exchange fields of a tunnelled message among them.
-pub absent-fields-are-zero : (bytes : List ℕ) (m : Message) → readOf bytes ≡ Reading.Taken m → (strayAddress m ≡ false) × (strayExchange m ≡ false)
+pub absent-fields-are-zero : (bytes : List ℕ) (m : Message) → readOf bytes ≡ asTaken m → (strayAddress m ≡ false) × (strayExchange m ≡ false)
 absent-fields-are-zero bytes m e =
     let k = written m _ _ _ _ (accept bytes m (length bytes) e (le-refl (length bytes))) .1 in
     (k .address, k .exchange)
@@ -156,7 +172,7 @@ absent-fields-are-zero bytes m e =
 -- ---- written, then read
 
 -- What was written at the front of a buffer reads back to the same value, the same payload and the same check. `Sized` says that the fields
--- are within their types, as those of every value are.
+-- are within their types, as those of every value are (`read-is-sized`).
 pub written-then-read : (m : Message) (payload check old : List ℕ) (n : ℕ) → Sized m → writeOf m payload check (length old) ≡ Writing.Written n
     → SameRead m payload check (take n (bufferAfter (Writing.Written n) (bytesOf m payload check) old))
 written-then-read m payload check old n z e =

@@ -1,5 +1,5 @@
 -- What was read is written back to the same bytes. Assumes nothing.
-use Prim.Native.Nat.{ℕ, zero, suc, _+_, _-_, _*_, _≤_, _<_}
+use Prim.Native.Nat.{ℕ, _+_, _-_, _≤_, _<_}
 use mathlib.Core.Path.{_≡_, refl, sym, ap, ap₂, subst, _∙_}
 use mathlib.Core.Bool.{Bool, true, false, not, cond}
 use mathlib.Core.List.{List, [], _∷_, _++_}
@@ -8,16 +8,17 @@ use native.Mathlib.Nat.{zero-add}
 use lib.ListN.{length, getD, take, drop, take-append-drop}
 use lib.Seq.{take-add}
 use lib.Dec.{eqb}
-use Rattle.wire.specs.Bytes.{part, little, big, littleBytes, bigBytes}
+use Rattle.wire.specs.Bytes.{part, little, littleBytes}
 use Rattle.wire.proofs.Digits.{AllBytes}
 use Rattle.wire.proofs.Fronts.{part-take}
 use Rattle.wire.proofs.Parts.{part-then, byte-low, little-back, big-back}
 use Rattle.message.specs.Layout.{only, headLength, checkLength}
-use Rattle.message.specs.Value.{bits, bit, header, placeOf, exchangeHeader, valueAt, messageOf, addressBytes, exchangeBytes, headBytes, bytesOf}
+use Rattle.message.specs.Value.{bits, bit, header, bodyBy, exchangeHeader, addressOf, exchangedBy, messageOf, addressBytes, exchangeBytes, headBytes, bytesOf}
 use Rattle.message.specs.Refusals.{badExchange, reserved}
-use Rattle.reader.specs.Reading.{readOf, payloadOf, checkOf}
+use Rattle.reader.specs.Reading.{readOf}
+use Rattle.parts.specs.Parts.{payloadOf, checkOf}
 use Rattle.message.specs.declared.value.Message.{Message}
-use Rattle.message.specs.declared.answers.Reading.the-variants.{Taken}
+use Rattle.message.specs.Answers.{asTaken}
 use Rattle.reader.proofs.Clear.{Clear, taken, fits}
 use Rattle.format.proofs.HeaderBack.{header-back, exchange-back}
 use Rattle.format.proofs.Taken.{payload-is, check-is}
@@ -39,9 +40,9 @@ header-low bs h = omega (arith, byte-low h 0, byte-low h 1)
 exchange-low : (bs : List ℕ) → AllBytes bs → exchangeHeader bs < 256
 exchange-low bs h = low (bit (header bs) 10)
   where
-    low : (t : Bool) → little (part bs (placeOf (header bs)) (only (not t) 1)) < 256
+    low : (t : Bool) → little (part bs (bodyBy (header bs)) (only (not t) 1)) < 256
     low true = omega arith
-    low false = omega (arith, byte-low h (placeOf (header bs)))
+    low false = omega (arith, byte-low h (bodyBy (header bs)))
 
 -- the three parts of a list
 rejoin : (bs : List ℕ) (n c : ℕ) → n + c ≤ length bs → take n bs ++ take (length bs - c - n) (drop n bs) ++ drop (length bs - c) bs ≡ bs
@@ -51,8 +52,8 @@ rejoin bs n c h =
     ∙ take-append-drop (length bs - c) bs
 
 module _ (bs : List ℕ) (h : AllBytes bs) where
-  address-back : reserved (header bs) ≡ false → addressBytes (messageOf bs) ≡ part bs 0 (placeOf (header bs))
-  unfolding addressBytes messageOf valueAt
+  address-back : reserved (header bs) ≡ false → addressBytes (messageOf bs) ≡ part bs 0 (bodyBy (header bs))
+  unfolding addressBytes messageOf exchangedBy addressOf
   address-back e =
       join0 bs _ (only (eqb (bits (header bs) 4 4) 1) 2)
       (join0 bs _ (only (bit (header bs) 8) 8)
@@ -63,10 +64,10 @@ module _ (bs : List ℕ) (h : AllBytes bs) where
       (little-back bs h _ (only (eqb (bits (header bs) 4 4) 1) 2))
 
   exchange-all-back : bit (header bs) 10 ≡ false → badExchange (exchangeHeader bs) ≡ false
-      → exchangeBytes (messageOf bs) ≡ part bs (placeOf (header bs)) (8 + only (bit (exchangeHeader bs) 1) 4)
-  unfolding exchangeBytes messageOf valueAt
+      → exchangeBytes (messageOf bs) ≡ part bs (bodyBy (header bs)) (8 + only (bit (exchangeHeader bs) 1) 4)
+  unfolding exchangeBytes messageOf exchangedBy addressOf
   exchange-all-back t e =
-      let at = placeOf (header bs) in
+      let at = bodyBy (header bs) in
       let f = bit (header bs) 10 in
       join bs at 8 (only (bit (exchangeHeader bs) 1) 4)
       (join bs at 4 4
@@ -79,18 +80,18 @@ module _ (bs : List ℕ) (h : AllBytes bs) where
       (little-back bs h (at + 8) (only (bit (exchangeHeader bs) 1) 4))
 
   body-back : (t : Bool) → bit (header bs) 10 ≡ t
-      → (t ≡ false → badExchange (exchangeHeader bs) ≡ false) → (t ≡ true → getD bs (placeOf (header bs)) 0 ≡ 1)
-      → cond t (littleBytes 1 1) (exchangeBytes (messageOf bs)) ≡ part bs (placeOf (header bs)) (cond t 1 (8 + only (bit (exchangeHeader bs) 1) 4))
+      → (t ≡ false → badExchange (exchangeHeader bs) ≡ false) → (t ≡ true → getD bs (bodyBy (header bs)) 0 ≡ 1)
+      → cond t (littleBytes 1 1) (exchangeBytes (messageOf bs)) ≡ part bs (bodyBy (header bs)) (cond t 1 (8 + only (bit (exchangeHeader bs) 1) 4))
   body-back true e f g = ap (λ (b : ℕ). b ∷ []) (sym (g refl))
   body-back false e f g = exchange-all-back e (f refl)
 
   head-back : Clear bs (messageOf bs) → headBytes (messageOf bs) ≡ part bs 0 (headLength (messageOf bs))
-  unfolding headBytes messageOf valueAt
+  unfolding headBytes messageOf exchangedBy addressOf
   head-back k =
-      join0 bs (placeOf (header bs)) _ (address-back (k .outer .reserved))
+      join0 bs (bodyBy (header bs)) _ (address-back (k .outer .reserved))
       (body-back (bit (header bs) 10) refl (λ t. k .general t .exchange) (λ t. k .tunnel t .version))
 
-  core : readOf bs ≡ Taken (messageOf bs) → bytesOf (messageOf bs) (payloadOf bs (readOf bs)) (checkOf bs (readOf bs)) ≡ bs
+  core : readOf bs ≡ asTaken (messageOf bs) → bytesOf (messageOf bs) (payloadOf bs (readOf bs)) (checkOf bs (readOf bs)) ≡ bs
   unfolding bytesOf
   core e =
       let m = messageOf bs in
@@ -102,6 +103,6 @@ module _ (bs : List ℕ) (h : AllBytes bs) where
       ∙ rejoin bs (headLength m) (checkLength m) f
 
 -- what was read is written back to the same bytes
-pub read-back : (bs : List ℕ) → AllBytes bs → (m : Message) → readOf bs ≡ Taken m → bytesOf m (payloadOf bs (readOf bs)) (checkOf bs (readOf bs)) ≡ bs
+pub read-back : (bs : List ℕ) → AllBytes bs → (m : Message) → readOf bs ≡ asTaken m → bytesOf m (payloadOf bs (readOf bs)) (checkOf bs (readOf bs)) ≡ bs
 read-back bs h m e =
-    subst (λ (k : Message). readOf bs ≡ Taken k → bytesOf k (payloadOf bs (readOf bs)) (checkOf bs (readOf bs)) ≡ bs) (taken bs m e .0) (core bs h) e
+    subst (λ (k : Message). readOf bs ≡ asTaken k → bytesOf k (payloadOf bs (readOf bs)) (checkOf bs (readOf bs)) ≡ bs) (taken bs m e .0) (core bs h) e

@@ -1,5 +1,5 @@
 -- The two parts of bytes that were taken, and their header. Assumes nothing.
-use Prim.Native.Nat.{_+_, _-_, _≤_, _<_}
+use Prim.Native.Nat.{_-_, _<_}
 use mathlib.Core.Path.{_≡_, sym, ap, subst, _∙_}
 use mathlib.Core.Bool.{Bool}
 use mathlib.Core.List.{List}
@@ -9,17 +9,24 @@ use borrow.Author.Tests.{le-leb}
 use lib.ListN.{length, take, drop, length-drop}
 use lib.Seq.{length-take-le}
 use Rattle.message.specs.Layout.{headLength, checkLength}
-use Rattle.reader.specs.Reading.{readOf, partOf, payloadOf, checkOf}
+use Rattle.reader.specs.Reading.{readOf}
+use Rattle.parts.specs.Parts.{partOf, payloadOf, checkOf}
 use Rattle.message.specs.declared.value.Message.{Message}
 use Rattle.message.specs.declared.answers.Reading.{Reading}
 use Rattle.message.specs.declared.answers.Reading.the-variants.{Taken}
+use Rattle.message.specs.declared.answers.Head.{Head}
+use Rattle.message.specs.Answers.{asTaken}
 use Rattle.wire.specs.Bytes.{little, front}
 use Rattle.wire.proofs.Fronts.{front-part}
-use Rattle.message.specs.Value.{header, headerOf, valueAt, messageOf}
-use Rattle.reader.proofs.Clear.{taken, fits}
+use Rattle.message.specs.Value.{header, headerOf, addressOf, exchangedBy, messageOf}
+use Rattle.reader.proofs.Clear.{taken, fits, head-taken}
 use Rattle.format.proofs.HeaderBack.{header-back}
 
-module _ (bytes : List ℕ) (m : Message) (e : readOf bytes ≡ Taken m) where
+-- whatever head reading gives with a value is the value's own
+pub as-taken : (bytes : List ℕ) (m : Message) (h : Head) → readOf bytes ≡ Taken m h → readOf bytes ≡ asTaken m
+as-taken bytes m h e = e ∙ ap (Taken m) (head-taken bytes m h e)
+
+module _ (bytes : List ℕ) (m : Message) (e : readOf bytes ≡ asTaken m) where
   pub payload-is : payloadOf bytes (readOf bytes) ≡ take (length bytes - checkLength m - headLength m) (drop (headLength m) bytes)
   unfolding payloadOf
   payload-is =
@@ -41,7 +48,7 @@ module _ (bytes : List ℕ) (m : Message) (e : readOf bytes ≡ Taken m) where
 
   -- the header h at the front of the bytes is that of the value
   pub header-is : (h : ℕ) → h ≡ little (front 2 bytes) → h < 65536 → h ≡ headerOf m
-  unfolding messageOf valueAt
+  unfolding messageOf exchangedBy addressOf
   header-is h g l =
       let c = taken bytes m e in
       let s : h ≡ header bytes = g ∙ ap little (front-part 2 bytes (c .1 .outer .two)) in

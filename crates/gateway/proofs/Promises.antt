@@ -7,9 +7,11 @@ use mathlib.Core.Path.{_≡_}
 use mathlib.Core.List.{List}
 use lib.ListN.{length, getD, take, drop}
 use Rattle.message.specs.declared.value.Message.{Message}
-use Rattle.reader.specs.Reading.{readOf, payloadOf, checkOf}
+use Rattle.message.specs.declared.answers.Head.{Head}
+use Rattle.reader.specs.Reading.{readOf}
+use Rattle.parts.specs.Parts.{payloadOf, checkOf}
 use Rattle.reception.specs.Receiving.{Beside, receiveOf}
-use Rattle.reception.specs.declared.answers.Received.the-variants as Received
+use Rattle.admission.specs.declared.answers.Received.the-variants as Received
 use Rattle.reception.proofs.WasRead.{new-was-read, duplicate-was-read}
 use Rattle.places.specs.Fields.{fieldsOf}
 use Rattle.places.proofs.Promises.{payload-there, check-there}
@@ -20,13 +22,13 @@ PartsThere bytes fields =
     (take (getD fields 11 0) (drop (getD fields 10 0) bytes) ≡ payloadOf bytes (readOf bytes))
     × (take (getD fields 13 0) (drop (getD fields 12 0) bytes) ≡ checkOf bytes (readOf bytes))
 
-module _ (b : Beside) (bytes t : List ℕ) (m : Message) (reply : ℕ) where
-  pub new-parts : receiveOf b bytes t ≡ Received.New m reply → PartsThere bytes (fieldsOf m (length bytes) 1 reply)
+module _ (b : Beside) (bytes t : List ℕ) (m : Message) (h : Head) (reply : ℕ) where
+  pub new-parts : receiveOf b bytes t ≡ Received.New m h reply → PartsThere bytes (fieldsOf m h (length bytes) 1 reply)
   new-parts e =
-      let r = new-was-read b bytes t m reply e in
-      (payload-there bytes m r 1 reply, check-there bytes m r 1 reply)
+      let r = new-was-read b bytes t m h reply e in
+      (payload-there bytes m h r 1 reply, check-there bytes m h r 1 reply)
 
-  pub duplicate-parts : receiveOf b bytes t ≡ Received.Duplicate m reply → PartsThere bytes (fieldsOf m (length bytes) 2 reply)
+  pub duplicate-parts : receiveOf b bytes t ≡ Received.Duplicate m h reply → PartsThere bytes (fieldsOf m h (length bytes) 2 reply)
   duplicate-parts e =
-      let r = duplicate-was-read b bytes t m reply e in
-      (payload-there bytes m r 2 reply, check-there bytes m r 2 reply)
+      let r = duplicate-was-read b bytes t m h reply e in
+      (payload-there bytes m h r 2 reply, check-there bytes m h r 2 reply)

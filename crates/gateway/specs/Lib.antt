@@ -1,3 +1,4 @@
 -- What the contracts of `gateway` cite.
 pub mod Receiving
+pub mod Removing
 pub mod Rows

@@ -5,7 +5,8 @@ use Rattle.window.specs.declared.Row.{Row}
 use Rattle.window.specs.declared.Rolled.{Rolled}
 use Rattle.window.specs.declared.Verdict.{Verdict}
 use Rattle.window.specs.declared.Verdict.the-variants as Verdict
-use Rattle.table.specs.Table.{bit, withRow}
+use Rattle.window.specs.Rows.{marksHeld}
+use Rattle.table.specs.Table.{oneIf, withRow}
 
 -- the number of a verdict; 0 is none
 abbrev pub verdictNumber : Verdict → ℕ
@@ -23,4 +24,4 @@ rolledWords rolled old = wordsAfter (rolled .verdict) (rolled .row) old
 
 -- a row: whether it is in use, its name, its highest id and its marks; a bit that stands for no mark is clear
 unfoldable pub rowPlaces : Row → List ℕ
-rowPlaces row = bit (row .used) ∷ row .node ∷ row .key ∷ row .highest ∷ (row .marks % 2 ^ 15) ∷ []
+rowPlaces row = oneIf (row .used) ∷ row .node ∷ row .key ∷ row .highest ∷ (row .marks % 2 ^ marksHeld) ∷ []

@@ -1,13 +1,11 @@
-// Receiving a message, and removing a row.
+// Receiving a message.
 ghost use mathlib.Core.Path.{_≡_};
 ghost use lib.ListN.{length};
 ghost use Rattle.reception.specs.Receiving.{beside, receiveOf, receiveTable, receiveBuffer};
-ghost use Rattle.reception.specs.Removing.{removeOf, removeTable};
-ghost use Rattle.gateway.specs.Receiving.{receivedNumber, receivedAfter, removedNumber};
+ghost use Rattle.gateway.specs.Receiving.{receivedNumber, receivedAfter};
 use places::FIELDS;
 use places::TABLE_WORDS;
 use reception::Received;
-use reception::Removed;
 
 // Receives a message: the fields say its value, its parts, the verdict and the length of the
 // acknowledgement, which stands at the front of `out`. Whatever receiving refuses.
@@ -29,29 +27,24 @@ pub extern "C" fn kabizarle_receive(
 {
     let answer = reception::receive(own, link, passed, id, bytes, table, out);
     match answer {
-        Received::New(m, reply) => {
+        Received::New(m, head, reply) => {
             let header = wire::get16(bytes);
-            places::store(m, header, bytes.len(), places::NEW, reply, fields);
+            places::store(m, head, header, bytes.len(), places::NEW, reply, fields);
             places::NO_REFUSAL
         }
-        Received::Duplicate(m, reply) => {
+        Received::Duplicate(m, head, reply) => {
             let header = wire::get16(bytes);
-            places::store(m, header, bytes.len(), places::DUPLICATE, reply, fields);
+            places::store(
+                m,
+                head,
+                header,
+                bytes.len(),
+                places::DUPLICATE,
+                reply,
+                fields,
+            );
             places::NO_REFUSAL
         }
         Received::Refused(refusal) => refusal.number as u32,
-    }
-}
-
-// Frees the row of a name: all its words are zero. Refusal 21.
-#[no_mangle]
-pub extern "C" fn kabizarle_remove(table: &mut [u64; TABLE_WORDS], node: u64, key: u16) -> u32
-    ensures result { λ r. ⌜ r ≡ removedNumber (removeOf (now (table .entry)) node key) ⌝ }
-    ensures table { λ _. ⌜ now (table .exit) ≡ removeTable (now (table .entry)) node key ⌝ }
-{
-    let answer = reception::remove(table, node, key);
-    match answer {
-        Removed::Done => places::NO_REFUSAL,
-        Removed::Refused(refusal) => refusal.number as u32,
     }
 }

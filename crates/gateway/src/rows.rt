@@ -2,25 +2,13 @@
 ghost use mathlib.Core.Path.{_≡_};
 ghost use lib.ListN.{length};
 ghost use Rattle.window.specs.Rows.{rolledOf};
-ghost use Rattle.table.specs.Table.{bit, rowOf, withRow, rowAt};
+ghost use Rattle.table.specs.Table.{rowOf, rowAt};
 ghost use Rattle.gateway.specs.Rows.{verdictNumber, rolledWords, rowPlaces};
 use places::ROW_PLACES;
 use places::ROW_WORDS;
 use places::TABLE_WORDS;
 use window::Row;
 use window::Verdict;
-
-// The least number above all marks.
-const ABOVE_MARKS: u64 = 0x8000;
-
-// Puts a row into its three words.
-fn put(words: &mut [u64; ROW_WORDS], row: Row)
-    ensures { λ _. ⌜ now (words .exit) ≡ withRow (now (words .entry)) 0 row ⌝ }
-{
-    words[places::NODE_WORD] = row.node;
-    words[places::STATE_WORD] = reception::state_of(row);
-    words[places::MARKS_WORD] = row.marks as u64;
-}
 
 // Rolls a row forward by one id where it stands, in three words as the table has them, and says the
 // verdict. New: the three words are put whole; duplicate: they stay as they were. Never refuses.
@@ -30,7 +18,7 @@ pub extern "C" fn kabizarle_roll(row: &mut [u64; ROW_WORDS], id: u32, verdict: &
     ensures row { λ _. ⌜ now (row .exit) ≡ rolledWords (rolledOf (rowOf (now (row .entry)) 0) id) (now (row .entry)) ⌝ }
     ensures verdict { λ _. ⌜ now (verdict .exit) ≡ verdictNumber (rolledOf (rowOf (now (row .entry)) 0) id .verdict) ⌝ }
 {
-    let before = reception::row_from(
+    let before = table::row_from(
         row[places::NODE_WORD],
         row[places::STATE_WORD],
         row[places::MARKS_WORD],
@@ -39,7 +27,7 @@ pub extern "C" fn kabizarle_roll(row: &mut [u64; ROW_WORDS], id: u32, verdict: &
     let said = rolled.verdict;
     match said {
         Verdict::New => {
-            put(row, rolled.row);
+            table::put_words(row, rolled.row);
             *verdict = places::NEW;
             places::NO_REFUSAL
         }
@@ -50,23 +38,16 @@ pub extern "C" fn kabizarle_roll(row: &mut [u64; ROW_WORDS], id: u32, verdict: &
     }
 }
 
-// 1 for a row in use, else 0.
-fn use_bit(used: bool) -> u64
-    ensures { λ r. ⌜ r ≡ bit used ⌝ }
-{
-    if used { 1 } else { 0 }
-}
-
 // Puts the fields of a row into their places; a bit that stands for no mark is clear.
 fn store_row(read: Row, row: &mut [u64])
     requires { ⌜ length (now row) ≡ 5 ⌝ }
     ensures { λ _. ⌜ now (row .exit) ≡ rowPlaces read ⌝ }
 {
-    row[places::ROW_USED] = use_bit(read.used);
+    row[places::ROW_USED] = table::use_bit(read.used);
     row[places::ROW_NODE] = read.node;
     row[places::ROW_KEY] = read.key as u64;
     row[places::ROW_HIGHEST] = read.highest as u64;
-    row[places::ROW_MARKS] = read.marks as u64 % ABOVE_MARKS;
+    row[places::ROW_MARKS] = (read.marks as u32 % Row::ABOVE_MARKS) as u64;
 }
 
 // The fields of the row at a number; past the last row they are all zero. Never refuses.
@@ -79,6 +60,6 @@ pub extern "C" fn kabizarle_row(
     ensures result { λ r. ⌜ r ≡ 0 ⌝ }
     ensures row { λ _. ⌜ now (row .exit) ≡ rowPlaces (rowAt (now (table .entry)) number) ⌝ }
 {
-    store_row(reception::row_at(table, number), row);
+    store_row(table::row_at(table, number), row);
     places::NO_REFUSAL
 }

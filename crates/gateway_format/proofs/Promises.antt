@@ -3,53 +3,52 @@
 -- Only one outcome fits each exported function.
 pub use Rattle.gateway_format.proofs.Outcomes.{one-read-outer, one-read, one-write, one-unframe, one-frame}
 use Prim.Native.Nat.{ℕ, _≤_}
-use mathlib.Core.Path.{_≡_, ap}
-use mathlib.Core.Bool.{true, not}
-use borrow.Author.Tests.{lt-ltb}
+use mathlib.Core.Path.{_≡_, sym, ap, ap₂, _∙_}
+use mathlib.Core.Bool.{true}
+use mathlib.Core.List.{List, _++_}
+use lib.ListN.{length, drop}
+use Rattle.wire.proofs.Digits.{AllBytes}
+use Rattle.message.specs.Value.{bytesOf}
+use Rattle.message.specs.Answers.{headOf, asTaken, bufferAfter}
 use Rattle.message.specs.declared.value.Message.{Message}
-use Rattle.format.proofs.HeaderForth.{header-forth}
-use Rattle.format.proofs.WriteRead.{Sized}
-use Rattle.places.specs.Fields.{fieldsWith, fieldsOf}
-use Rattle.gateway_format.specs.Values.{fits, valueFrom}
-use Rattle.gateway_format.proofs.Fitted.{true-and}
-use Rattle.gateway_format.proofs.Flags.{flags-back, flags-low}
+use Rattle.message.specs.declared.answers.Reading.{Reading}
+use Rattle.message.specs.declared.answers.Writing.{Writing}
+use Rattle.message.specs.declared.answers.Writing.the-variants.{Written}
+use Rattle.reader.specs.Reading.{readOf}
+use Rattle.parts.specs.Parts.{payloadOf, checkOf}
+use Rattle.judge.specs.Writing.{writeOf}
+use Rattle.format.proofs.Promises.{read-then-written}
+use Rattle.places.specs.Fields.{fieldsOf}
+use Rattle.values.specs.Values.{fits, valueFrom}
+use Rattle.values.specs.declared.Loaded.{Loaded}
+use Rattle.values.proofs.Fitted.{loaded}
+use Rattle.values.proofs.Promises.{Typed, value-back, value-fits, read-is-typed}
+use Rattle.gateway_format.specs.Messages.{readAfter, writeLoaded, writeFrom}
 
--- a value whose fields are within their types, of a version and an encrypt type that can be written
-pub record Typed (m : Message) : Type 0 where
-  pub version : m .version ≤ 2
-  pub encrypt : m .encrypt ≤ 1
-  pub sized : Sized m
+module _ (bytes : List ℕ) (all : AllBytes bytes) (m : Message) (e : readOf bytes ≡ asTaken m) where
+  typed : Typed m
+  typed = read-is-typed bytes all m e
 
-module _ (m : Message) (typed : Typed m) (len verdict reply : ℕ) where
-  -- the places of a value say that value
-  pub value-back : valueFrom (fieldsOf m len verdict reply) ≡ m
-  unfolding fieldsWith valueFrom
-  value-back =
-      let h = header-forth m (typed .version) (typed .encrypt) in
-      let f = flags-back m in
-      λ i. record {
-        version = h .version i;
-        tunnelled = h .tunnelled i;
-        sourced = h .sourced i;
-        destined = h .destined i;
-        encrypt = h .encrypt i;
-        id = m .id;
-        source = m .source;
-        destination = m .destination;
-        key = m .key;
-        initiator = f .initiator i;
-        acknowledges = f .acknowledges i;
-        wants = f .wants i;
-        kind = m .kind;
-        exchange = m .exchange;
-        profile = m .profile;
-        acknowledged = m .acknowledged;
-      }
+  -- The places that reading fills say its value, and none of them is refused.
+  pub read-places-say-the-value : (before : List ℕ)
+      → let fields : List ℕ = readAfter (readOf bytes) (length bytes) before in (valueFrom fields ≡ m) × (fits fields ≡ true)
+  read-places-say-the-value before =
+      let is : readAfter (readOf bytes) (length bytes) before ≡ fieldsOf m (headOf m) (length bytes) 0 0 = ap (λ (r : Reading). readAfter r (length bytes) before) e in
+      (ap valueFrom is ∙ value-back m typed (length bytes) 0 0, ap fits is ∙ value-fits m typed (length bytes) 0 0)
 
-  -- and none of them is refused
-  pub value-fits : fits (fieldsOf m len verdict reply) ≡ true
-  unfolding fieldsWith fits
-  value-fits =
-      let h = header-forth m (typed .version) (typed .encrypt) in
-      let s = typed .sized in
-      true-and _ _ (true-and _ _ (true-and _ _ (true-and _ _ (true-and _ _ (true-and _ _ (true-and _ _ (true-and _ _ (lt-ltb _ _ (h .low)) (ap not (h .clean))) (flags-low m)) (lt-ltb _ _ (s .id))) (lt-ltb _ _ (s .key))) (lt-ltb _ _ (s .kind))) (lt-ltb _ _ (s .exchange))) (lt-ltb _ _ (s .profile))) (lt-ltb _ _ (s .acknowledged))
+  -- Written with the payload and the check that were read, they give the same bytes, where there is room, and the buffer's other bytes stay.
+  pub read-places-are-written-back : (before old : List ℕ) → length bytes ≤ length old
+      → let fields : List ℕ = readAfter (readOf bytes) (length bytes) before in
+      let payload : List ℕ = payloadOf bytes (readOf bytes) in
+      let check : List ℕ = checkOf bytes (readOf bytes) in
+      let answer : Writing = writeFrom fields payload check (length old) in
+      (answer ≡ Written (length bytes)) × (bufferAfter answer (bytesOf (valueFrom fields) payload check) old ≡ bytes ++ drop (length bytes) old)
+  unfolding writeFrom
+  read-places-are-written-back before old room =
+      let said = read-places-say-the-value before in
+      let fields : List ℕ = readAfter (readOf bytes) (length bytes) before in
+      let payload : List ℕ = payloadOf bytes (readOf bytes) in
+      let check : List ℕ = checkOf bytes (readOf bytes) in
+      let w = read-then-written bytes old all m e room in
+      let same : writeFrom fields payload check (length old) ≡ writeOf m payload check (length old) = ap (λ (l : Loaded). writeLoaded l payload check (length old)) (sym (loaded fields m (said .1) (sym (said .0)))) in
+      (same ∙ w .0, ap₂ (λ (a : Writing) (x : Message). bufferAfter a (bytesOf x payload check) old) same (said .0) ∙ w .1)

@@ -1,4 +1,3 @@
 -- What the contracts of `gateway_format` cite.
-pub mod Values
 pub mod Messages
 pub mod Streams

@@ -1,6 +1,5 @@
 -- Messages: what outer reading, reading and writing put into the lent places; on a refusal nothing. Assumes nothing.
 use Prim.Native.Nat.{ℕ}
-use mathlib.Core.Bool.{cond}
 use mathlib.Core.List.{List, [], _∷_}
 use Rattle.message.specs.Answers.{refusal}
 use Rattle.message.specs.declared.answers.Reading.{Reading}
@@ -9,9 +8,11 @@ use Rattle.message.specs.declared.answers.OuterReading.{OuterReading}
 use Rattle.message.specs.declared.answers.OuterReading.the-variants as OuterReading
 use Rattle.message.specs.declared.answers.Writing.{Writing}
 use Rattle.message.specs.declared.answers.Writing.the-variants as Writing
-use Rattle.writer.specs.Writing.{writeOf}
+use Rattle.judge.specs.Writing.{writeOf}
 use Rattle.places.specs.Fields.{fieldsOf}
-use Rattle.gateway_format.specs.Values.{fits, valueFrom}
+use Rattle.values.specs.Values.{loadOf}
+use Rattle.values.specs.declared.Loaded.{Loaded}
+use Rattle.values.specs.declared.Loaded.the-variants.{Value, Unfit}
 
 -- outer reading: where the protected part starts, and its length
 abbrev pub partAfter : OuterReading → List ℕ → List ℕ
@@ -20,12 +21,16 @@ partAfter (OuterReading.Refused r) old = old
 
 -- reading: the fields of the value, with no verdict and no reply
 abbrev pub readAfter : Reading → ℕ → List ℕ → List ℕ
-readAfter (Reading.Taken m) len old = fieldsOf m len 0 0
+readAfter (Reading.Taken m h) len old = fieldsOf m h len 0 0
 readAfter (Reading.Refused r) len old = old
 
 -- writing: 14 for a number that its field cannot hold, before all else; then as writing the value answers
+abbrev pub writeLoaded : Loaded → List ℕ → List ℕ → ℕ → Writing
+writeLoaded (Value m) payload check room = writeOf m payload check room
+writeLoaded Unfit payload check room = Writing.Refused (refusal 14)
+
 unfoldable pub writeFrom : List ℕ → List ℕ → List ℕ → ℕ → Writing
-writeFrom fields payload check room = cond (fits fields) (writeOf (valueFrom fields) payload check room) (Writing.Refused (refusal 14))
+writeFrom fields payload check room = writeLoaded (loadOf fields) payload check room
 
 -- writing and framing: the length
 abbrev pub writtenAfter : Writing → ℕ → ℕ

@@ -4,7 +4,6 @@
 // is compiled by itself.
 mod messages;
 mod streams;
-mod values;
 
 pub use messages::kabizarle_read;
 pub use messages::kabizarle_read_outer;

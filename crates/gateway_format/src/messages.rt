@@ -4,16 +4,17 @@ ghost use mathlib.Core.List.{[], _∷_};
 ghost use lib.ListN.{length};
 ghost use Rattle.message.specs.Value.{bytesOf};
 ghost use Rattle.message.specs.Answers.{readingNumber, outerNumber, writingNumber, bufferAfter};
-ghost use Rattle.reader.specs.Reading.{readOf, outerOf};
-ghost use Rattle.gateway_format.specs.Values.{valueFrom};
+ghost use Rattle.outer.specs.Outer.{outerOf};
+ghost use Rattle.reader.specs.Reading.{readOf};
+ghost use Rattle.values.specs.Values.{valueFrom};
 ghost use Rattle.gateway_format.specs.Messages.{partAfter, readAfter, writeFrom, writtenAfter};
-use crate::values;
 use message::OuterReading;
 use message::Reading;
 use message::Refusal;
 use message::Writing;
 use places::FIELDS;
 use places::PART_PLACES;
+use values::Loaded;
 
 // Puts the start and the length of a part into its places.
 fn store_part(start: usize, len: usize, part: &mut [u64])
@@ -30,7 +31,7 @@ pub extern "C" fn kabizarle_read_outer(bytes: &[u8], part: &mut [u64; PART_PLACE
     ensures result { λ r. ⌜ r ≡ outerNumber (outerOf (now (bytes .entry))) ⌝ }
     ensures part { λ _. ⌜ now (part .exit) ≡ partAfter (outerOf (now (bytes .entry))) (now (part .entry)) ⌝ }
 {
-    let outer = reader::read_outer(bytes);
+    let outer = outer::read_outer(bytes);
     match outer {
         OuterReading::Protected(start, len) => {
             store_part(start, len, part);
@@ -49,9 +50,9 @@ pub extern "C" fn kabizarle_read(bytes: &[u8], fields: &mut [u64; FIELDS]) -> u3
 {
     let reading = reader::read(bytes);
     match reading {
-        Reading::Taken(m) => {
+        Reading::Taken(m, head) => {
             let header = wire::get16(bytes);
-            places::store(m, header, bytes.len(), places::NONE, 0, fields);
+            places::store(m, head, header, bytes.len(), places::NONE, 0, fields);
             places::NO_REFUSAL
         }
         Reading::Refused(refusal) => refusal.number as u32,
@@ -87,9 +88,12 @@ pub extern "C" fn kabizarle_write(
     ensures buffer { λ _. ⌜ now (out .exit) ≡ bufferAfter (writeFrom (now (fields .entry)) (now (payload .entry)) (now (check .entry)) (length (now (out .entry)))) (bytesOf (valueFrom (now (fields .entry))) (now (payload .entry)) (now (check .entry))) (now (out .entry)) ⌝ }
     ensures written { λ _. ⌜ now (written .exit) ≡ writtenAfter (writeFrom (now (fields .entry)) (now (payload .entry)) (now (check .entry)) (length (now (out .entry)))) (now (written .entry)) ⌝ }
 {
-    if !values::fit(fields) {
-        return Refusal::STRAY as u32;
+    let loaded = values::load(fields);
+    match loaded {
+        Loaded::Value(m) => {
+            let answer = writer::write(m, payload, check, out);
+            settle(answer, written)
+        }
+        Loaded::Unfit => Refusal::STRAY as u32,
     }
-    let answer = writer::write(values::value(fields), payload, check, out);
-    settle(answer, written)
 }

@@ -79,7 +79,7 @@ fn written_back(m: Message, payload: &[u8], check: &[u8]) {
 fn show(bytes: &[u8]) {
     let reading = format::read(bytes);
     match reading {
-        Reading::Taken(m) => {
+        Reading::Taken(m, _) => {
             address(m);
             exchange(m);
             flags(m);

@@ -6,8 +6,8 @@ use lib.Dec.{ltb}
 use lib.ListN.{length, drop}
 use Rattle.lines.specs.declared.Said.{Said}
 use Rattle.lines.specs.declared.Said.the-variants as Said
-use Rattle.reception.specs.declared.answers.Received.{Received}
-use Rattle.reception.specs.declared.answers.Received.the-variants as Received
+use Rattle.admission.specs.declared.answers.Received.{Received}
+use Rattle.admission.specs.declared.answers.Received.the-variants as Received
 use Rattle.message.specs.declared.answers.Unframed.{Unframed}
 use Rattle.message.specs.declared.answers.Unframed.the-variants.{Whole, Incomplete}
 use Rattle.reception.specs.Receiving.{beside, receiveOf, receiveTable}
@@ -15,8 +15,8 @@ use Rattle.stream.specs.Stream.{unframeOf, framedMessage}
 
 -- the verdict with the message id, or the refusal
 abbrev pub saidOf : Received → Said
-saidOf (Received.New m len) = Said.New (m .id)
-saidOf (Received.Duplicate m len) = Said.Duplicate (m .id)
+saidOf (Received.New m h len) = Said.New (m .id)
+saidOf (Received.Duplicate m h len) = Said.Duplicate (m .id)
 saidOf (Received.Refused refusal) = Said.Refused (refusal .number)
 
 -- what the line says of a message, and the table after it: own node 02 00 00 00 00 00 00 01, link node zero, the check passed, id 0, room of 64 bytes

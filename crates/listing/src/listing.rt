@@ -8,7 +8,7 @@ use lines::Said;
 use message::Unframed;
 use message::layout;
 use reception::Received;
-use reception::WORDS;
+use table::WORDS;
 
 // The own node; the link's node, of which nothing is known; the id of the acknowledgements.
 const OWN: u64 = 0x0200_0000_0000_0001;
@@ -25,8 +25,8 @@ fn said(answer: Received) -> Said
     ensures { λ r. ⌜ r ≡ saidOf answer ⌝ }
 {
     match answer {
-        Received::New(m, _) => Said::New(m.id),
-        Received::Duplicate(m, _) => Said::Duplicate(m.id),
+        Received::New(m, _, _) => Said::New(m.id),
+        Received::Duplicate(m, _, _) => Said::Duplicate(m.id),
         Received::Refused(refusal) => Said::Refused(refusal.number),
     }
 }

@@ -2,8 +2,11 @@
 use Prim.Native.Nat.{ℕ, zero, suc}
 use mathlib.Core.List.{List, _++_}
 use lib.ListN.{drop}
+use Rattle.message.specs.Layout.{headLength}
+use Rattle.message.specs.Value.{flagsOf}
 use Rattle.message.specs.declared.value.Message.{Message}
 use Rattle.message.specs.declared.answers.Refusal.{Refusal}
+use Rattle.message.specs.declared.answers.Head.{Head}
 use Rattle.message.specs.declared.answers.Reading.{Reading}
 use Rattle.message.specs.declared.answers.Reading.the-variants as Reading
 use Rattle.message.specs.declared.answers.OuterReading.{OuterReading}
@@ -14,9 +17,16 @@ use Rattle.message.specs.declared.answers.Writing.the-variants as Writin
 abbrev pub refusal : ℕ → Refusal
 refusal n = record { number = n }
 
--- reading: the value, or the refusal
+-- the head of a value
+abbrev pub headOf : Message → Head
+headOf m = record { flags = flagsOf m; length = headLength m }
+
+-- reading: the value and its head, or the refusal
+abbrev pub asTaken : Message → Reading
+asTaken m = Reading.Taken m (headOf m)
+
 abbrev pub reading : ℕ → Message → Reading
-reading zero m = Reading.Taken m
+reading zero m = asTaken m
 reading (suc n) m = Reading.Refused (refusal (suc n))
 
 -- outer reading: where the protected part starts and how long it is, or the refusal
@@ -31,7 +41,7 @@ writing (suc n) len = Writing.Refused (refusal (suc n))
 
 -- the refusal number of an answer
 abbrev pub readingNumber : Reading → ℕ
-readingNumber (Reading.Taken m) = 0
+readingNumber (Reading.Taken m h) = 0
 readingNumber (Reading.Refused r) = r .number
 
 abbrev pub outerNumber : OuterReading → ℕ

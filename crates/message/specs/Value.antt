@@ -1,7 +1,7 @@
 -- The value that bytes stand for, and the bytes that a value stands for ("Bytes of a message"). Assumes nothing.
 use Prim.Native.Nat.{ℕ, _+_, _*_, _/_, _%_, _^_}
-use mathlib.Core.Bool.{Bool, not, cond}
-use mathlib.Core.List.{List, [], _∷_, _++_}
+use mathlib.Core.Bool.{Bool, false, not, cond}
+use mathlib.Core.List.{List, _++_}
 use lib.Dec.{eqb}
 use Rattle.wire.specs.Bytes.{part, little, big, littleBytes, bigBytes}
 use Rattle.message.specs.Layout.{only, sourceAt, destinationAt, keyAt, bodyAt, encrypted}
@@ -19,16 +19,16 @@ abbrev pub header : List ℕ → ℕ
 header bytes = little (part bytes 0 2)
 
 -- where the exchange header or the tunnel version stands, by the header
-abbrev pub placeOf : ℕ → ℕ
-placeOf h = bodyAt (bit h 9) (bit h 8) (eqb (bits h 4 4) 1)
+abbrev pub bodyBy : ℕ → ℕ
+bodyBy h = bodyAt (bit h 9) (bit h 8) (eqb (bits h 4 4) 1)
 
 -- the exchange header; 0 in a tunnelled message
 abbrev pub exchangeHeader : List ℕ → ℕ
-exchangeHeader bytes = little (part bytes (placeOf (header bytes)) (only (not (bit (header bytes) 10)) 1))
+exchangeHeader bytes = little (part bytes (bodyBy (header bytes)) (only (not (bit (header bytes) 10)) 1))
 
--- the value, from the header h, the place `at` of the exchange header or the tunnel version, and the exchange header x
-unfoldable pub valueAt : List ℕ → ℕ → ℕ → ℕ → Message
-valueAt bytes h at x =
+-- the value up to the key id, from the header h: all exchange fields are zero
+unfoldable pub addressOf : List ℕ → ℕ → Message
+addressOf bytes h =
     record {
       version = bits h 12 4;
       tunnelled = bit h 10;
@@ -39,21 +39,48 @@ valueAt bytes h at x =
       source = big (part bytes sourceAt (only (bit h 9) 8));
       destination = big (part bytes (destinationAt (bit h 9)) (only (bit h 8) 8));
       key = little (part bytes (keyAt (bit h 9) (bit h 8)) (only (eqb (bits h 4 4) 1) 2));
+      initiator = false;
+      acknowledges = false;
+      wants = false;
+      kind = 0;
+      exchange = 0;
+      profile = 0;
+      acknowledged = 0;
+    }
+
+-- a value with the exchange fields besides, where it is general: of the exchange header x, and of what follows its place `at`
+unfoldable pub exchangedBy : Bool → Message → List ℕ → ℕ → ℕ → Message
+exchangedBy general m bytes at x =
+    record {
+      version = m .version;
+      tunnelled = m .tunnelled;
+      sourced = m .sourced;
+      destined = m .destined;
+      encrypt = m .encrypt;
+      id = m .id;
+      source = m .source;
+      destination = m .destination;
+      key = m .key;
       initiator = bit x 0;
       acknowledges = bit x 1;
       wants = bit x 2;
-      kind = little (part bytes (at + 1) (only (not (bit h 10)) 1));
-      exchange = little (part bytes (at + 2) (only (not (bit h 10)) 2));
-      profile = little (part bytes (at + 4) (only (not (bit h 10)) 4));
+      kind = little (part bytes (at + 1) (only general 1));
+      exchange = little (part bytes (at + 2) (only general 2));
+      profile = little (part bytes (at + 4) (only general 4));
       acknowledged = little (part bytes (at + 8) (only (bit x 1) 4));
     }
 
 unfoldable pub messageOf : List ℕ → Message
-messageOf bytes = valueAt bytes (header bytes) (placeOf (header bytes)) (exchangeHeader bytes)
+messageOf bytes =
+    exchangedBy (not (bit (header bytes) 10)) (addressOf bytes (header bytes)) bytes (bodyBy (header bytes)) (exchangeHeader bytes)
 
 -- the header of a value: version, T, S, D, encrypt type; bits 11 and 3 to 0 are zero
 abbrev pub headerOf : Message → ℕ
 headerOf m = (m .version) * 2 ^ 12 + only (m .tunnelled) (2 ^ 10) + only (m .sourced) (2 ^ 9) + only (m .destined) (2 ^ 8) + (m .encrypt) * 2 ^ 4
+
+-- the bits I, A and R of a value
+abbrev pub flagsOf : Message → ℕ
+flagsOf m = only (m .initiator) (2 ^ 0) + only (m .acknowledges) (2 ^ 1) + only (m .wants) (2 ^ 2)
 
 -- the exchange header of a value: F is one; I, A, R
 abbrev pub exchangeHeaderOf : Message → ℕ

@@ -53,9 +53,16 @@ impl Refusal {
     pub const UNWRITABLE: u8 = 22;
 }
 
-// Of reading: the value, or the refusal.
+// What stands before the payload or the packet, beside the fields: the bits I, A and R as the wire has
+// them, 0 of a tunnelled message, and how many bytes it is.
+pub struct Head {
+    pub flags: u8,
+    pub length: usize,
+}
+
+// Of reading: the value and its head, or the refusal.
 pub enum Reading {
-    Taken(Message),
+    Taken(Message, Head),
     Refused(Refusal),
 }
 

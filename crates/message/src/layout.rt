@@ -69,6 +69,9 @@ pub const A: u8 = 2;
 
 pub const R: u8 = 4;
 
+// One more than the sum of I, A and R.
+pub const ABOVE_FLAGS: u8 = 8;
+
 pub const EXCHANGE_RESERVED: u8 = 8;
 
 pub const F: u8 = 16;

@@ -5,6 +5,7 @@ mod conditions;
 pub mod layout;
 mod value;
 
+pub use answers::Head;
 pub use answers::OuterReading;
 pub use answers::Reading;
 pub use answers::Refusal;

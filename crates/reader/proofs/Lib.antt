@@ -1,4 +1,4 @@
 pub mod Steps
-pub mod Begun
 pub mod Readings
 pub mod Clear
+pub mod Flags

@@ -1,33 +1,30 @@
 -- Reading after outer reading: what its answer is, and which bytes are there. Assumes nothing.
-use Prim.Native.Nat.{ℕ, zero, suc, _+_, _-_, _≤_}
+use Prim.Native.Nat.{ℕ, zero, suc, _+_, _≤_}
 use mathlib.Core.Path.{_≡_, refl, sym, ap, ap₂, subst, _∙_}
 use mathlib.Core.Bool.{Bool, true, false, not, cond}
-use mathlib.Core.List.{List, [], _∷_, _++_}
-use native.Mathlib.Nat.{sub-self}
+use mathlib.Core.List.{List}
 use native.Mathlib.Omega.{arith}
 use lib.ListN.{length}
 use Rattle.wire.specs.Bytes.{part, little}
-use Rattle.message.specs.Order.{Condition, first}
-use Rattle.message.specs.Layout.{only, encrypted, bodyOf, checkLength}
-use Rattle.message.specs.Value.{bit, header, placeOf, exchangeHeader, valueAt, messageOf}
-use Rattle.message.specs.Answers.{refusal, reading, outerReading}
-use Rattle.reader.specs.Reading.{outerOrder, exchangeOrder, tunnelOrder, bodyOrder, readingOrder, readOf, startOf, outerOf}
-use Rattle.reader.specs.Steps.{fixedAt, addressOf, begunOf, exchanged, exchangeOf, tunnelOf}
+use Rattle.message.specs.Order.{first}
+use Rattle.message.specs.Layout.{only, bodyOf, checkLength}
+use Rattle.message.specs.Value.{bit, header, bodyBy, exchangeHeader, addressOf, exchangedBy, messageOf, flagsOf}
+use Rattle.message.specs.Answers.{refusal, reading}
 use Rattle.message.specs.declared.value.Message.{Message}
 use Rattle.message.specs.declared.answers.Reading.the-variants as Reading
-use Rattle.message.specs.declared.answers.OuterReading.the-variants as OuterReading
-use Rattle.reader.specs.declared.outer.Begun.the-variants.{Address, Refused}
 use Rattle.message.proofs.Order.{first-pass, first-hit}
+use Rattle.outer.specs.Outer.{outerOrder}
+use Rattle.outer.specs.Steps.{fixedAt, begunOf}
+use Rattle.outer.specs.declared.outer.Begun.the-variants.{Address, Refused}
+use Rattle.outer.proofs.Begun.{refused-first, outer-numbered, outer-fixed}
+use Rattle.outer.proofs.Answers.{outer-none, outer-given, outer-body}
+use Rattle.reader.specs.Reading.{exchangeOrder, tunnelOrder, bodyOrder, readingOrder, readOf}
+use Rattle.reader.specs.Steps.{exchanged, exchangeOf, tunnelOf}
 use Rattle.reader.proofs.Steps.{address-tunnelled, address-exchanged}
-use Rattle.reader.proofs.Begun.{address-clear, refused-first, outer-numbered, outer-fixed}
 
 reading-hit : (n : ℕ) (m : Message) → (n ≡ 0 → ⊥) → reading n m ≡ Reading.Refused (refusal n)
 reading-hit zero m h = absurd (h refl)
 reading-hit (suc n) m h = refl
-
-outer-hit : (n start len : ℕ) → (n ≡ 0 → ⊥) → outerReading n start len ≡ OuterReading.Refused (refusal n)
-outer-hit zero start len h = absurd (h refl)
-outer-hit (suc n) start len h = refl
 
 -- ---- outer reading refused
 
@@ -38,53 +35,17 @@ read-refused bytes k e =
     ap (λ (n : ℕ). reading n (messageOf bytes)) (first-hit (outerOrder bytes (messageOf bytes)) (bodyOrder bytes (messageOf bytes)) (λ z. r .1 (sym (r .0) ∙ z)) ∙ r .0)
     ∙ reading-hit k (messageOf bytes) (r .1)
 
-pub outer-refused : (bytes : List ℕ) (k : ℕ) → begunOf bytes ≡ Refused k → outerOf bytes ≡ OuterReading.Refused (refusal k)
-unfolding outerOf
-outer-refused bytes k e =
-    let r = refused-first bytes k e in
-    ap (λ (n : ℕ). outerReading n (startOf bytes (messageOf bytes)) (length bytes - startOf bytes (messageOf bytes))) (r .0)
-    ∙ outer-hit k _ _ (r .1)
-
 -- ---- outer reading gave the value up to the key id
 
--- of a general and of a tunnelled message, the value that was given agrees with the whole value on what the length and the start go by
 module _ (bytes : List ℕ) (m : Message) (e : begunOf bytes ≡ Address m) where
-  clear : first (outerOrder bytes (messageOf bytes)) ≡ 0
-  clear = address-clear bytes m e .0
-
   given : addressOf bytes (header bytes) ≡ m
-  given = address-clear bytes m e .1
+  given = outer-given bytes m e
 
-  start-is : startOf bytes (messageOf bytes) ≡ startOf bytes m
-  unfolding messageOf valueAt addressOf
-  start-is = ap (λ (v : Message). startOf bytes v) given
-
-  outer-taken : outerOf bytes ≡ OuterReading.Protected (startOf bytes m) (length bytes - startOf bytes m)
-  unfolding outerOf
-  outer-taken =
-      ap (λ (n : ℕ). outerReading n (startOf bytes (messageOf bytes)) (length bytes - startOf bytes (messageOf bytes))) clear
-      ∙ ap (λ (s : ℕ). OuterReading.Protected s (length bytes - s)) start-is
-
-  pub outer-encrypted : encrypted m ≡ true → outerOf bytes ≡ OuterReading.Protected (bodyOf m) (length bytes - bodyOf m)
-  outer-encrypted t =
-      outer-taken
-      ∙ ap (λ (b : Bool). OuterReading.Protected (cond b (bodyOf m) (length bytes)) (length bytes - cond b (bodyOf m) (length bytes))) t
-
-  pub outer-plain : encrypted m ≡ false → outerOf bytes ≡ OuterReading.Protected (length bytes) 0
-  outer-plain t =
-      outer-taken
-      ∙ ap (λ (b : Bool). OuterReading.Protected (cond b (bodyOf m) (length bytes)) (length bytes - cond b (bodyOf m) (length bytes))) t
-      ∙ ap (λ (n : ℕ). OuterReading.Protected (length bytes) n) (sub-self (length bytes))
+  body-is : bodyOf m ≡ bodyBy (header bytes)
+  body-is = outer-body bytes m e
 
   fixed : fixedAt (header bytes) ≤ length bytes
-  fixed = outer-fixed bytes clear
-
-  body-is : bodyOf m ≡ placeOf (header bytes)
-  unfolding addressOf
-  body-is = ap bodyOf (sym given)
-
-  pub outer-room : bodyOf m ≤ length bytes
-  outer-room = let f = fixed in let b = body-is in omega arith
+  fixed = outer-fixed bytes (outer-none bytes m e)
 
   kind : m .tunnelled ≡ bit (header bytes) 10
   unfolding addressOf
@@ -92,6 +53,10 @@ module _ (bytes : List ℕ) (m : Message) (e : begunOf bytes ≡ Address m) wher
 
   check-is : checkLength m ≡ checkLength (addressOf bytes (header bytes))
   check-is = ap checkLength (sym given)
+
+  pub no-flags : flagsOf m ≡ 0
+  unfolding addressOf
+  no-flags = ap flagsOf (sym given)
 
   pub tunnel-room : m .tunnelled ≡ true → bodyOf m + 2 ≤ length bytes
   tunnel-room t =
@@ -111,7 +76,7 @@ module _ (bytes : List ℕ) (m : Message) (e : begunOf bytes ≡ Address m) wher
   unfolding readOf readingOrder
   to-body =
       ap (λ (n : ℕ). reading n (messageOf bytes))
-      (first-pass (outerOrder bytes (messageOf bytes)) (bodyOrder bytes (messageOf bytes)) (outer-numbered bytes (messageOf bytes)) clear)
+      (first-pass (outerOrder bytes (messageOf bytes)) (bodyOrder bytes (messageOf bytes)) (outer-numbered bytes (messageOf bytes)) (outer-none bytes m e))
 
   by-tunnel : m .tunnelled ≡ true → reading (first (bodyOrder bytes m)) m ≡ reading (first (tunnelOrder bytes m)) m
   unfolding bodyOrder
@@ -134,7 +99,7 @@ module _ (bytes : List ℕ) (m : Message) (e : begunOf bytes ≡ Address m) wher
   by-exchange : m .tunnelled ≡ false
       → reading (first (bodyOrder bytes (exchanged m bytes (bodyOf m)))) (exchanged m bytes (bodyOf m))
       ≡ reading (first (exchangeOrder (exchangeHeader bytes) (length bytes) (exchanged m bytes (bodyOf m)))) (exchanged m bytes (bodyOf m))
-  unfolding bodyOrder exchanged
+  unfolding bodyOrder exchangedBy
   by-exchange t =
       ap (λ (k : Bool). reading (first (cond k (tunnelOrder bytes (exchanged m bytes (bodyOf m))) (exchangeOrder (exchangeHeader bytes) (length bytes) (exchanged m bytes (bodyOf m))))) (exchanged m bytes (bodyOf m))) t
 

@@ -1,86 +1,109 @@
 -- The steps in which the code reads are the order of reading and the value of the definitions. Assumes nothing.
-use Prim.Native.Nat.{ℕ, _+_, _≤_, _<_}
-use mathlib.Core.Path.{_≡_, refl, sym, ap, _∙_}
+use Prim.Native.Nat.{ℕ, _+_, _%_, _≤_, _<_}
+use mathlib.Core.Path.{_≡_, refl, sym, ap, ap₂, _∙_}
 use mathlib.Core.Bool.{Bool, true, false, _&&_}
-use mathlib.Core.List.{List, [], _∷_, _++_}
+use mathlib.Core.List.{List, [], _∷_}
+use native.Mathlib.Nat.{div-one}
 use native.Mathlib.Omega.{arith}
 use borrow.Author.Tests.{lt-ltb, le-ltb}
-use lib.Dec.{ltb}
-use lib.ListN.{length}
+use lib.Dec.{eqb, ltb}
+use lib.ListN.{length, getD}
 use Rattle.wire.specs.Bytes.{part, little}
 use Rattle.message.specs.Order.{_when_, first}
 use Rattle.message.specs.Layout.{only, bodyOf, checkLength}
-use Rattle.message.specs.Value.{bit, header, placeOf, valueAt, messageOf}
-use Rattle.message.specs.Refusals.{tooLong, badExchange, oldAsks, noRoom, addressOrder}
-use Rattle.message.specs.Answers.{refusal, reading}
+use Rattle.message.specs.Value.{bit, header, bodyBy, addressOf, exchangedBy, messageOf}
+use Rattle.message.specs.Refusals.{badExchange, oldAsks, badTunnel, badPacket, noRoom}
+use Rattle.message.specs.Answers.{refusal, asTaken, reading}
 use Rattle.message.specs.declared.value.Message.{Message}
-use Rattle.message.specs.declared.answers.Reading.the-variants.{Taken, Refused}
-use Rattle.message.proofs.Order.{numbered}
-use Rattle.reader.specs.Reading.{outerOrder, exchangeOrder}
-use Rattle.reader.specs.Steps.{headerOrder, fixedAt, addressOf, exchanged, exchangeOf}
-
--- the order of outer reading: lengths, what the header decides, the fixed part, what the address fields decide
-pub outer-steps : (bytes : List ℕ) → outerOrder bytes (messageOf bytes)
-    ≡ 1 when tooLong (length bytes) ∷ 2 when ltb (length bytes) 2 ∷ (headerOrder (header bytes) ++ (2 when ltb (length bytes) (fixedAt (header bytes)) ∷ addressOrder (addressOf bytes (header bytes))))
-unfolding outerOrder headerOrder addressOrder addressOf messageOf valueAt
-outer-steps bytes = refl
-
--- the numbers of these are of refusals
-pub header-numbered : (h : ℕ) → numbered (headerOrder h) ≡ true
-unfolding headerOrder
-header-numbered h = refl
+use Rattle.message.specs.declared.answers.Reading.the-variants.{Refused}
+use Rattle.reader.specs.Reading.{exchangeOrder, tunnelOrder}
+use Rattle.reader.specs.Steps.{exchanged, fieldsOf, exchangeOf, tunnelOf}
 
 -- the value of a tunnelled message is that up to its key id
 pub address-tunnelled : (bytes : List ℕ) → bit (header bytes) 10 ≡ true → addressOf bytes (header bytes) ≡ messageOf bytes
-unfolding addressOf messageOf valueAt
+unfolding addressOf messageOf exchangedBy
 address-tunnelled bytes t = simp t
 
 -- the value of a general message has the exchange fields besides
 pub address-exchanged : (bytes : List ℕ) → bit (header bytes) 10 ≡ false
-    → exchanged (addressOf bytes (header bytes)) bytes (placeOf (header bytes)) ≡ messageOf bytes
-unfolding addressOf exchanged messageOf valueAt
+    → exchanged (addressOf bytes (header bytes)) bytes (bodyBy (header bytes)) ≡ messageOf bytes
+unfolding addressOf messageOf exchangedBy
 address-exchanged bytes t = simp t
 
--- A's room, for a general message: the four bytes end before the check
-pub room-steps : (n : ℕ) (m : Message) (bytes : List ℕ) (at end : ℕ) → m .tunnelled ≡ false → end ≡ bodyOf m + 8 + 4 + checkLength m
-    → noRoom n (exchanged m bytes at) ≡ (bit (little (part bytes at 1)) 1 && ltb n end)
-unfolding exchanged
-room-steps n m bytes at end t e =
+-- those fields, each as the code gets it
+pub exchanged-fields : (m : Message) (bytes : List ℕ) (at x kind exchange profile acknowledged : ℕ) → x ≡ little (part bytes at 1)
+    → kind ≡ little (part bytes (at + 1) 1) → exchange ≡ little (part bytes (at + 2) 2) → profile ≡ little (part bytes (at + 4) 4)
+    → acknowledged ≡ little (part bytes (at + 8) (only (bit x 1) 4))
+    → record { version = m .version; tunnelled = m .tunnelled; sourced = m .sourced; destined = m .destined; encrypt = m .encrypt; id = m .id; source = m .source; destination = m .destination; key = m .key; initiator = eqb (x % 2) 1; acknowledges = bit x 1; wants = bit x 2; kind = kind; exchange = exchange; profile = profile; acknowledged = acknowledged } ≡ exchanged m bytes at
+unfolding exchangedBy
+exchanged-fields m bytes at x kind exchange profile acknowledged a b c d e = simp (e, ← a, b, c, d, div-one)
+
+-- a tunnelled message, whose version stands at `at`: the version is refused, the packet is, neither is
+module _ (bytes : List ℕ) (m : Message) (at : ℕ) (e : at ≡ bodyOf m) where
+  by-tunnel : (v p : Bool) → badTunnel (getD bytes at 0) ≡ v → badPacket (getD bytes (at + 1) 0) ≡ p → tunnelOf bytes m ≡ reading (first (12 when v ∷ 13 when p ∷ [])) m
+  unfolding tunnelOf tunnelOrder
+  by-tunnel v p f g =
+      ap₂ (λ (a b : Bool). reading (first (12 when a ∷ 13 when b ∷ [])) m)
+      (ap (λ (i : ℕ). badTunnel (getD bytes i 0)) (sym e) ∙ f)
+      (ap (λ (i : ℕ). badPacket (getD bytes (i + 1) 0)) (sym e) ∙ g)
+
+  pub tunnel-version : badTunnel (getD bytes at 0) ≡ true → tunnelOf bytes m ≡ Refused (refusal 12)
+  tunnel-version f = by-tunnel true _ f refl
+
+  pub tunnel-packet : badTunnel (getD bytes at 0) ≡ false → badPacket (getD bytes (at + 1) 0) ≡ true → tunnelOf bytes m ≡ Refused (refusal 13)
+  tunnel-packet f g = by-tunnel false true f g
+
+  pub tunnel-whole : badTunnel (getD bytes at 0) ≡ false → badPacket (getD bytes (at + 1) 0) ≡ false → tunnelOf bytes m ≡ asTaken m
+  tunnel-whole f g = by-tunnel false false f g
+
+-- a general one, whose exchange header is x: the header is refused, A or R is, what is left to decide is A's room
+module _ (bytes : List ℕ) (m : Message) (x : ℕ) (e : x ≡ little (part bytes (bodyOf m) 1)) where
+  by-header : (b o : Bool) → badExchange x ≡ b → oldAsks (m .version) (bit x 1) (bit x 2) ≡ o
+      → exchangeOf bytes m ≡ reading (first (10 when b ∷ 11 when o ∷ 2 when noRoom (length bytes) (exchanged m bytes (bodyOf m)) ∷ [])) (exchanged m bytes (bodyOf m))
+  unfolding exchangeOf exchangeOrder exchangedBy
+  by-header b o f g =
+      ap₂ (λ (c d : Bool). reading (first (10 when c ∷ 11 when d ∷ 2 when noRoom (length bytes) (exchanged m bytes (bodyOf m)) ∷ [])) (exchanged m bytes (bodyOf m)))
+      (ap badExchange (sym e) ∙ f)
+      (ap (λ (y : ℕ). oldAsks (m .version) (bit y 1) (bit y 2)) (sym e) ∙ g)
+
+  pub exchange-header : badExchange x ≡ true → exchangeOf bytes m ≡ Refused (refusal 10)
+  exchange-header f = by-header true _ f refl
+
+  pub exchange-asks : badExchange x ≡ false → oldAsks (m .version) (bit x 1) (bit x 2) ≡ true → exchangeOf bytes m ≡ Refused (refusal 11)
+  exchange-asks f g = by-header false true f g
+
+  pub exchange-fields : badExchange x ≡ false → oldAsks (m .version) (bit x 1) (bit x 2) ≡ false → exchangeOf bytes m ≡ fieldsOf bytes m
+  unfolding fieldsOf
+  exchange-fields f g = by-header false false f g
+
+-- that room: the four bytes end before the check
+room-steps : (n : ℕ) (m : Message) (bytes : List ℕ) (at x end : ℕ) → m .tunnelled ≡ false → end ≡ bodyOf m + 8 + 4 + checkLength m
+    → noRoom n (exchangedBy true m bytes at x) ≡ (bit x 1 && ltb n end)
+unfolding exchangedBy
+room-steps n m bytes at x end t e =
     let f : bodyOf m + 8 + checkLength m + 4 ≡ end = omega arith in
     simp (t, f)
 
-last : {a b c d : Bool} → a ≡ false → b ≡ false → c ≡ d → first (10 when a ∷ 11 when b ∷ 2 when c ∷ []) ≡ first (2 when d ∷ [])
-last p q r = simp (p, q, r)
+-- what it decides: x is the exchange header, and A's four bytes would end at end
+module _ (bytes : List ℕ) (m : Message) (end : ℕ) (t : m .tunnelled ≡ false) (n : end ≡ bodyOf m + 8 + 4 + checkLength m) where
+  x : ℕ
+  x = little (part bytes (bodyOf m) 1)
 
--- the last two answers for a general message: x is its exchange header, and A's four bytes would end at end
-module _ (bytes : List ℕ) (m : Message) (x end : ℕ) (e : x ≡ little (part bytes (bodyOf m) 1)) (t : m .tunnelled ≡ false) (n : end ≡ bodyOf m + 8 + 4 + checkLength m)
-    (b : badExchange x ≡ false) (o : oldAsks (m .version) (bit x 1) (bit x 2) ≡ false) where
-  room-is : noRoom (length bytes) (exchanged m bytes (bodyOf m)) ≡ (bit x 1 && ltb (length bytes) end)
-  room-is = room-steps (length bytes) m bytes (bodyOf m) end t n ∙ ap (λ (y : ℕ). bit y 1 && ltb (length bytes) end) (sym e)
-
-  asks-is : oldAsks (exchanged m bytes (bodyOf m) .version) (exchanged m bytes (bodyOf m) .acknowledges) (exchanged m bytes (bodyOf m) .wants) ≡ false
-  unfolding exchanged
-  asks-is = ap (λ (y : ℕ). oldAsks (m .version) (bit y 1) (bit y 2)) (sym e) ∙ o
-
-  to-room : (r : Bool) → (bit x 1 && ltb (length bytes) end) ≡ r
-      → first (exchangeOrder (little (part bytes (bodyOf m) 1)) (length bytes) (exchanged m bytes (bodyOf m))) ≡ first (2 when r ∷ [])
-  unfolding exchangeOrder
-  to-room r h = last (ap badExchange (sym e) ∙ b) asks-is (room-is ∙ h)
-
-  exchange-short : (bit x 1 && ltb (length bytes) end) ≡ true → exchangeOf bytes m ≡ Refused (refusal 2)
-  unfolding exchangeOf
-  exchange-short r = ap (λ (k : ℕ). reading k (exchanged m bytes (bodyOf m))) (to-room true r)
-
-  exchange-taken : (bit x 1 && ltb (length bytes) end) ≡ false → exchangeOf bytes m ≡ Taken (exchanged m bytes (bodyOf m))
-  unfolding exchangeOf
-  exchange-taken r = ap (λ (k : ℕ). reading k (exchanged m bytes (bodyOf m))) (to-room false r)
+  by-room : (r : Bool) → (bit x 1 && ltb (length bytes) end) ≡ r → fieldsOf bytes m ≡ reading (first (2 when r ∷ [])) (exchanged m bytes (bodyOf m))
+  unfolding x fieldsOf
+  by-room r h =
+      ap (λ (b : Bool). reading (first (2 when b ∷ [])) (exchanged m bytes (bodyOf m)))
+      (room-steps (length bytes) m bytes (bodyOf m) (little (part bytes (bodyOf m) 1)) end t n ∙ h)
 
   -- without A; with A and no room for its bytes; with A and room
-  pub exchange-bare : bit x 1 ≡ false → exchangeOf bytes m ≡ Taken (exchanged m bytes (bodyOf m))
-  exchange-bare h = exchange-taken (ap (λ (a : Bool). a && ltb (length bytes) end) h)
+  pub fields-bare : bit (little (part bytes (bodyOf m) 1)) 1 ≡ false → fieldsOf bytes m ≡ asTaken (exchanged m bytes (bodyOf m))
+  unfolding x
+  fields-bare h = by-room false (ap (λ (a : Bool). a && ltb (length bytes) end) h)
 
-  pub exchange-lacks : bit x 1 ≡ true → length bytes < end → exchangeOf bytes m ≡ Refused (refusal 2)
-  exchange-lacks h l = exchange-short (ap (λ (a : Bool). a && ltb (length bytes) end) h ∙ lt-ltb _ _ l)
+  pub fields-lack : bit (little (part bytes (bodyOf m) 1)) 1 ≡ true → length bytes < end → fieldsOf bytes m ≡ Refused (refusal 2)
+  unfolding x
+  fields-lack h l = by-room true (ap (λ (a : Bool). a && ltb (length bytes) end) h ∙ lt-ltb _ _ l)
 
-  pub exchange-whole : bit x 1 ≡ true → end ≤ length bytes → exchangeOf bytes m ≡ Taken (exchanged m bytes (bodyOf m))
-  exchange-whole h l = exchange-taken (ap (λ (a : Bool). a && ltb (length bytes) end) h ∙ le-ltb _ _ l)
+  pub fields-whole : bit (little (part bytes (bodyOf m) 1)) 1 ≡ true → end ≤ length bytes → fieldsOf bytes m ≡ asTaken (exchanged m bytes (bodyOf m))
+  unfolding x
+  fields-whole h l = by-room false (ap (λ (a : Bool). a && ltb (length bytes) end) h ∙ le-ltb _ _ l)

@@ -1,11 +1,10 @@
 -- The laws that belong to no one function. Promises has those that a reader looks for, and the others stand behind it.
 pub mod Promises
-pub mod History
-pub mod Kept
+pub mod Cleared
 pub mod Orders
 pub mod Outcomes
-pub mod Places
-pub mod Planned
-pub mod Steps
-pub mod Told
+pub mod Removal
+pub mod Removes
+pub mod Replies
+pub mod Unwritable
 pub mod WasRead

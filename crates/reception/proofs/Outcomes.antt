@@ -15,7 +15,7 @@ use denote.Triple.Clauses.{AtExit}
 use mathlib.Core.Bool.{Bool}
 use mathlib.Core.List.{List}
 use Rattle.reception.specs.declared.answers.Removed.{Removed}
-use Rattle.reception.specs.declared.answers.Received.{Received}
+use Rattle.admission.specs.declared.answers.Received.{Received}
 use Rattle.wire.proofs.One.{both, two, three}
 use Rattle.reception.proofs.removing.remove as removing
 use Rattle.reception.proofs.receiving.receive as receiving

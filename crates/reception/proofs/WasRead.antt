@@ -1,6 +1,6 @@
 -- A message that was received was read: its value is what reading gives. Assumes nothing.
 use Prim.Native.Nat.{ℕ, zero, suc}
-use mathlib.Core.Path.{_≡_, refl, sym, ap₂, _∙_}
+use mathlib.Core.Path.{_≡_, refl, sym, ap, ap₂, _∙_}
 use mathlib.Core.Bool.{Bool, true, false}
 use mathlib.Core.List.{List, [], _∷_, _++_}
 use native.Mathlib.Omega.{arith}
@@ -8,16 +8,18 @@ use Rattle.message.specs.Order.{Condition, _when_, first}
 use Rattle.message.specs.Layout.{only}
 use Rattle.message.specs.Value.{messageOf}
 use Rattle.message.specs.Refusals.{nobody, total}
-use Rattle.message.specs.Answers.{reading}
+use Rattle.message.specs.Answers.{headOf, reading}
 use Rattle.message.specs.declared.value.Message.{Message}
+use Rattle.message.specs.declared.answers.Head.{Head}
 use Rattle.message.specs.declared.answers.Reading.the-variants.{Taken}
 use Rattle.message.proofs.Order.{first-hit}
 use Rattle.reader.specs.Reading.{readingOrder, readOf}
 use Rattle.window.specs.declared.Verdict.{Verdict}
 use Rattle.window.specs.declared.Verdict.the-variants as Verdict
-use Rattle.reception.specs.declared.answers.Received.{Received}
-use Rattle.reception.specs.declared.answers.Received.the-variants as Received
-use Rattle.reception.specs.Receiving.{Beside, senderOf, noRow, answerTo, afterReading, receivingOrder, verdictIn, received, answerOf, receiveOf}
+use Rattle.admission.specs.declared.answers.Received.{Received}
+use Rattle.admission.specs.declared.answers.Received.the-variants as Received
+use Rattle.admission.specs.Admission.{noRow, verdictIn, received, answerOf}
+use Rattle.reception.specs.Receiving.{Beside, senderOf, answerTo, afterReading, receivingOrder, receiveOf}
 
 -- where no condition of an order holds, none of its middle part does
 middle : (n : ℕ) (holds : Bool) (before after : List Condition) → first (suc n when holds ∷ before ++ after) ≡ 0 → first before ≡ 0
@@ -29,17 +31,17 @@ middle n false before after e = go (first before) refl
     go (suc k) h = sym (first-hit before after (λ z. let w : suc k ≡ 0 = sym h ∙ z in omega arith)) ∙ e
 
 -- an answer with a verdict has no refusal, and holds the value
-new-of : (k : ℕ) (v : Verdict) (x m : Message) (l n : ℕ) → received k v x l ≡ Received.New m n → (k ≡ 0) × (x ≡ m)
-new-of zero Verdict.New x m l n e = (refl, cc)
-new-of zero Verdict.Duplicate x m l n e = let z : _≡_ {A = ℕ} 0 1 = cc in let w : ⊥ = omega arith in absurd w
-new-of (suc k) v x m l n e = let z : _≡_ {A = ℕ} 0 1 = cc in let w : ⊥ = omega arith in absurd w
+pub new-of : (k : ℕ) (v : Verdict) (x m : Message) (g h : Head) (l n : ℕ) → received k v x g l ≡ Received.New m h n → (k ≡ 0) × (x ≡ m) × (g ≡ h) × (v ≡ Verdict.New) × (l ≡ n)
+new-of zero Verdict.New x m g h l n e = (refl, cc, cc, refl, cc)
+new-of zero Verdict.Duplicate x m g h l n e = let z : _≡_ {A = ℕ} 0 1 = cc in let w : ⊥ = omega arith in absurd w
+new-of (suc k) v x m g h l n e = let z : _≡_ {A = ℕ} 0 1 = cc in let w : ⊥ = omega arith in absurd w
 
-duplicate-of : (k : ℕ) (v : Verdict) (x m : Message) (l n : ℕ) → received k v x l ≡ Received.Duplicate m n → (k ≡ 0) × (x ≡ m)
-duplicate-of zero Verdict.New x m l n e = let z : _≡_ {A = ℕ} 0 1 = cc in let w : ⊥ = omega arith in absurd w
-duplicate-of zero Verdict.Duplicate x m l n e = (refl, cc)
-duplicate-of (suc k) v x m l n e = let z : _≡_ {A = ℕ} 0 1 = cc in let w : ⊥ = omega arith in absurd w
+duplicate-of : (k : ℕ) (v : Verdict) (x m : Message) (g h : Head) (l n : ℕ) → received k v x g l ≡ Received.Duplicate m h n → (k ≡ 0) × (x ≡ m) × (g ≡ h) × (v ≡ Verdict.Duplicate) × (l ≡ n)
+duplicate-of zero Verdict.New x m g h l n e = let z : _≡_ {A = ℕ} 0 1 = cc in let w : ⊥ = omega arith in absurd w
+duplicate-of zero Verdict.Duplicate x m g h l n e = (refl, cc, cc, refl, cc)
+duplicate-of (suc k) v x m g h l n e = let z : _≡_ {A = ℕ} 0 1 = cc in let w : ⊥ = omega arith in absurd w
 
-module _ (b : Beside) (bytes t : List ℕ) (m : Message) (n : ℕ) where
+module _ (b : Beside) (bytes t : List ℕ) (m : Message) (h : Head) (n : ℕ) where
   sender : ℕ
   sender = senderOf (b .link) (messageOf bytes)
 
@@ -53,17 +55,35 @@ module _ (b : Beside) (bytes t : List ℕ) (m : Message) (n : ℕ) where
   unfolding receivingOrder
   clear-reading e = middle 14 (nobody (b .own)) (readingOrder bytes) (afterReading b (messageOf bytes) full) e
 
-  read-by : (first (receivingOrder b bytes full) ≡ 0) × (messageOf bytes ≡ m) → readOf bytes ≡ Taken m
+  read-by : (first (receivingOrder b bytes full) ≡ 0) × (messageOf bytes ≡ m) × (headOf (messageOf bytes) ≡ h) → readOf bytes ≡ Taken m h
   unfolding readOf
-  read-by w = ap₂ reading (clear-reading (w .0)) (w .1)
+  read-by w = ap (λ (k : ℕ). reading k (messageOf bytes)) (clear-reading (w .0)) ∙ ap₂ Taken (w .1) (w .2)
+
+  -- an answer with a verdict: nothing refused, and it holds the value of the bytes, its head and the acknowledgement's length
+  pub record Said : Type 0 where
+    pub clear : first (receivingOrder b bytes (noRow t (senderOf (b .link) (messageOf bytes)) (messageOf bytes .key))) ≡ 0
+    pub value : messageOf bytes ≡ m
+    pub head : headOf (messageOf bytes) ≡ h
+    pub reply : only (messageOf bytes .wants) (total (answerTo b (messageOf bytes)) []) ≡ n
+
+  pub new-said : receiveOf b bytes t ≡ Received.New m h n → Said
+  unfolding receiveOf answerOf sender full reply
+  new-said e =
+      let w = new-of (first (receivingOrder b bytes full)) (verdictIn t sender (messageOf bytes)) (messageOf bytes) m (headOf (messageOf bytes)) h reply n e in
+      record { clear = w .0; value = w .1; head = w .2; reply = w .4 }
+
+  pub duplicate-said : receiveOf b bytes t ≡ Received.Duplicate m h n → Said
+  unfolding receiveOf answerOf sender full reply
+  duplicate-said e =
+      let w = duplicate-of (first (receivingOrder b bytes full)) (verdictIn t sender (messageOf bytes)) (messageOf bytes) m (headOf (messageOf bytes)) h reply n e in
+      record { clear = w .0; value = w .1; head = w .2; reply = w .4 }
 
   -- a message that is new was read
-  pub new-was-read : receiveOf b bytes t ≡ Received.New m n → readOf bytes ≡ Taken m
-  unfolding receiveOf answerOf sender full reply
-  new-was-read e = read-by (new-of (first (receivingOrder b bytes full)) (verdictIn t sender (messageOf bytes)) (messageOf bytes) m reply n e)
+  pub new-was-read : receiveOf b bytes t ≡ Received.New m h n → readOf bytes ≡ Taken m h
+  unfolding sender full
+  new-was-read e = let w = new-said e in read-by (w .clear, w .value, w .head)
 
   -- and so was a duplicate
-  pub duplicate-was-read : receiveOf b bytes t ≡ Received.Duplicate m n → readOf bytes ≡ Taken m
-  unfolding receiveOf answerOf sender full reply
-  duplicate-was-read e =
-      read-by (duplicate-of (first (receivingOrder b bytes full)) (verdictIn t sender (messageOf bytes)) (messageOf bytes) m reply n e)
+  pub duplicate-was-read : receiveOf b bytes t ≡ Received.Duplicate m h n → readOf bytes ≡ Taken m h
+  unfolding sender full
+  duplicate-was-read e = let w = duplicate-said e in read-by (w .clear, w .value, w .head)

@@ -1,5 +1,3 @@
--- What the contracts of `reception` cite, and what the laws say of a history.
-pub mod Acknowledgement
+-- What the contracts of `reception` cite.
 pub mod Receiving
 pub mod Removing
-pub mod History

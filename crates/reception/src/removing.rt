@@ -12,22 +12,12 @@ pub fn remove(table: &mut [u64; WORDS], node: u64, key: u16) -> Removed
     ensures result { λ r. ⌜ r ≡ removeOf (now (table .entry)) node key ⌝ }
     ensures table { λ r. ⌜ now (table .exit) ≡ removeTable (now (table .entry)) node key ⌝ }
 {
-    let found = table::find(table, node, key);
+    let found = search::find(table, node, key);
     if ROWS <= found {
         return Removed::Refused(Refusal {
             number: Refusal::NO_ROW,
         });
     }
-    table::put_row(
-        table,
-        found,
-        Row {
-            used: false,
-            node: 0,
-            key: 0,
-            highest: 0,
-            marks: 0,
-        },
-    );
+    table::put_row(table, found, Row::FREE);
     Removed::Done
 }

@@ -10,7 +10,7 @@ use lib.Seq.{getD-set-same, getD-set-other}
 use lib.Dec.{eqb}
 use Rattle.message.proofs.Logic.{clash}
 use Rattle.window.specs.declared.Row.{Row}
-use Rattle.table.specs.Table.{rows, bit, freed, rowOf, withRow, rowAt, putAt, named, under}
+use Rattle.table.specs.Table.{rows, oneIf, freed, rowOf, withRow, rowAt, putAt, named, rowUnder}
 
 -- the row of three words
 abbrev pub fields : ℕ → ℕ → ℕ → Row
@@ -47,11 +47,11 @@ this-node w key true e l = one (eqb (w / 2 ^ 32 % 2 ^ 17) (2 ^ 16 + key)) refl
     one false h = two (eqb (w / 2 ^ 48 % 2) 1) refl (eqb-false _ _ h)
 
 -- a row in use under a name is known but for its ids
-pub named-row : (row : Row) (node key : ℕ) → named node key row ≡ true → under node key row ≡ row
+pub named-row : (row : Row) (node key : ℕ) → named node key row ≡ true → rowUnder node key row ≡ row
 named-row row node key = go (row .used) (eqb (row .node) node) (eqb (row .key) key) refl refl refl
   where
     go : (u n k : Bool) → row .used ≡ u → eqb (row .node) node ≡ n → eqb (row .key) key ≡ k → (u && n && k) ≡ true
-        → under node key row ≡ row
+        → rowUnder node key row ≡ row
     go true true true eu en ek h =
         let n : row .node ≡ node = eqb-true _ _ en in
         let k : row .key ≡ key = eqb-true _ _ ek in
@@ -75,6 +75,10 @@ pub put-within : (t : List ℕ) (i : ℕ) (row : Row) → i < rows → putAt t i
 unfolding putAt
 put-within t i row l = ap (λ (b : Bool). cond b (withRow t i row) t) (lt-ltb i rows l)
 
+pub put-past : (t : List ℕ) (i : ℕ) (row : Row) → rows ≤ i → putAt t i row ≡ t
+unfolding putAt
+put-past t i row l = ap (λ (b : Bool). cond b (withRow t i row) t) (le-ltb i rows l)
+
 -- ---- putting a row, and reading it back
 
 -- the fields are such as their words hold
@@ -91,7 +95,7 @@ length-put t i row = simp length-set
 pub other-word : (t : List ℕ) (i k : ℕ) (row : Row) → (k ≡ 3 * i → ⊥) → (k ≡ 3 * i + 1 → ⊥) → (k ≡ 3 * i + 2 → ⊥) → getD (withRow t i row) k 0 ≡ getD t k 0
 unfolding withRow
 other-word t i k row n₀ n₁ n₂ =
-    let y : ℕ = bit (row .used) * 2 ^ 48 + (row .key * 2 ^ 32 + row .highest) in
+    let y : ℕ = oneIf (row .used) * 2 ^ 48 + (row .key * 2 ^ 32 + row .highest) in
     getD-set-other (set (set t (3 * i) (row .node)) (3 * i + 1) y) (3 * i + 2) k (row .marks) 0 n₂
     ∙ getD-set-other (set t (3 * i) (row .node)) (3 * i + 1) k y 0 n₁
     ∙ getD-set-other t (3 * i) k (row .node) 0 n₀
@@ -106,15 +110,15 @@ other-row t i j row n =
     λ k. fields (a k) (b k) (c k)
 
 -- the three words of a row say it
-words-say : (row : Row) → Narrow row → fields (row .node) (bit (row .used) * 2 ^ 48 + (row .key * 2 ^ 32 + row .highest)) (row .marks) ≡ row
+words-say : (row : Row) → Narrow row → fields (row .node) (oneIf (row .used) * 2 ^ 48 + (row .key * 2 ^ 32 + row .highest)) (row .marks) ≡ row
 words-say row s =
     let u = back (row .used) (row .key * 2 ^ 32 + row .highest) (omega (arith, s .key, s .highest)) in
-    let k : (bit (row .used) * 2 ^ 48 + (row .key * 2 ^ 32 + row .highest)) / 2 ^ 32 % 2 ^ 16 ≡ row .key = omega (arith, s .key, s .highest) in
-    let h : (bit (row .used) * 2 ^ 48 + (row .key * 2 ^ 32 + row .highest)) % 2 ^ 32 ≡ row .highest = omega (arith, s .highest) in
+    let k : (oneIf (row .used) * 2 ^ 48 + (row .key * 2 ^ 32 + row .highest)) / 2 ^ 32 % 2 ^ 16 ≡ row .key = omega (arith, s .key, s .highest) in
+    let h : (oneIf (row .used) * 2 ^ 48 + (row .key * 2 ^ 32 + row .highest)) % 2 ^ 32 ≡ row .highest = omega (arith, s .highest) in
     let m : row .marks % 2 ^ 16 ≡ row .marks = omega (arith, s .marks) in
     λ i. record { used = u i; node = row .node; key = k i; highest = h i; marks = m i }
   where
-    back : (b : Bool) (x : ℕ) → x < 2 ^ 48 → eqb ((bit b * 2 ^ 48 + x) / 2 ^ 48 % 2) 1 ≡ b
+    back : (b : Bool) (x : ℕ) → x < 2 ^ 48 → eqb ((oneIf b * 2 ^ 48 + x) / 2 ^ 48 % 2) 1 ≡ b
     back true x l = eq-eqb ((1 * 2 ^ 48 + x) / 2 ^ 48 % 2) 1 (omega arith)
     back false x l = ne-eqb ((0 * 2 ^ 48 + x) / 2 ^ 48 % 2) 1 (λ e. omega arith)
 
@@ -122,7 +126,7 @@ words-say row s =
 pub same-row : (t : List ℕ) (i : ℕ) (row : Row) → 3 * i + 2 < length t → Narrow row → rowOf (withRow t i row) i ≡ row
 unfolding rowOf withRow
 same-row t i row l s =
-    let y : ℕ = bit (row .used) * 2 ^ 48 + (row .key * 2 ^ 32 + row .highest) in
+    let y : ℕ = oneIf (row .used) * 2 ^ 48 + (row .key * 2 ^ 32 + row .highest) in
     let one : List ℕ = set t (3 * i) (row .node) in
     let two : List ℕ = set one (3 * i + 1) y in
     let a : getD (set two (3 * i + 2) (row .marks)) (3 * i) 0 ≡ row .node =

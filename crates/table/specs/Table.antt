@@ -10,10 +10,10 @@ use Rattle.window.specs.declared.Row.{Row}
 abbrev pub rows : ℕ
 rows = 32
 
--- a truth value as a bit
-abbrev pub bit : Bool → ℕ
-bit true = 1
-bit false = 0
+-- 1 for true, 0 for false
+abbrev pub oneIf : Bool → ℕ
+oneIf true = 1
+oneIf false = 0
 
 -- the row that stands in the words from 3 * i on: node, then highest id, key id and in-use bit in one word, then the marks
 unfoldable pub rowOf : List ℕ → ℕ → Row
@@ -29,7 +29,7 @@ rowOf t i =
 -- the table with a row put there: three words, and no others
 unfoldable pub withRow : List ℕ → ℕ → Row → List ℕ
 withRow t i row =
-    set (set (set t (3 * i) (row .node)) (3 * i + 1) (bit (row .used) * 2 ^ 48 + (row .key * 2 ^ 32 + row .highest))) (3 * i + 2) (row .marks)
+    set (set (set t (3 * i) (row .node)) (3 * i + 1) (oneIf (row .used) * 2 ^ 48 + (row .key * 2 ^ 32 + row .highest))) (3 * i + 2) (row .marks)
 
 -- a free row of zeros, as removal leaves it
 abbrev pub freed : Row
@@ -53,8 +53,12 @@ abbrev pub named : ℕ → ℕ → Row → Bool
 named node key row = row .used && eqb (row .node) node && eqb (row .key) key
 
 -- a row in use under this name, with the ids of another
-abbrev pub under : ℕ → ℕ → Row → Row
-under node key row = record { used = true; node = node; key = key; highest = row .highest; marks = row .marks }
+abbrev pub rowUnder : ℕ → ℕ → Row → Row
+rowUnder node key row = record { used = true; node = node; key = key; highest = row .highest; marks = row .marks }
+
+-- a row under its own name, with these ids
+abbrev pub withIds : Row → ℕ → ℕ → Row
+withIds row highest marks = record { used = row .used; node = row .node; key = row .key; highest = highest; marks = marks }
 
 -- a row that is not in use
 abbrev pub isFree : Row → Bool

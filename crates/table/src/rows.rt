@@ -1,52 +1,23 @@
-// The table: 32 rows in 96 words that the caller lends, three words to a row. All zero is the empty
-// table.
-//
-//     word 0                node
-//     word 1     63 .. 49 |   48   | 47 .. 32 | 31 ..  0
-//                    -    | in use |  key id  | highest id
-//     word 2     63 .. 16 | 15 .. 0
-//                    -    |  marks
-//
-// Bits that belong to no field are never looked at, and are clear once the row is put.
+// Rows in the words of a table: reading one, and putting one.
 ghost use mathlib.Core.Path.{_≡_};
 ghost use mathlib.Core.List.{[], _∷_};
 ghost use Prim.Native.Nat.{_+_, _*_, _^_, _≤_};
-ghost use Rattle.table.specs.Table.{bit, rowOf, rowAt, putAt};
+ghost use Rattle.table.specs.Table.{oneIf, rowOf, withRow, rowAt, putAt, rowUnder, withIds};
+use crate::layout;
+use crate::layout::ROWS;
+use crate::layout::WORDS;
 use window::Row;
-
-// How many rows there are, how many words a row takes, and how many words that makes.
-pub const ROWS: usize = 32;
-
-pub(crate) const ROW: usize = 3;
-
-pub const WORDS: usize = ROW * ROWS;
-
-// Which word of a row is which.
-pub(crate) const STATE: usize = 1;
-
-pub(crate) const MARKS: usize = 2;
-
-// The weights of the key id and of the in-use bit in word 1; the ranges of the fields.
-pub(crate) const KEY: u64 = 0x1_0000_0000;
-
-pub(crate) const KEYS: u64 = 0x1_0000;
-
-pub(crate) const IN_USE: u64 = KEY * KEYS;
-
-pub(crate) const IDS: u64 = KEY;
-
-pub(crate) const MARK_BITS: u64 = 0x1_0000;
 
 // The row that three words hold: node, then in-use bit, key id and highest id in one, then the marks.
 pub fn row_from(node: u64, state: u64, marks: u64) -> Row
     ensures { λ r. ⌜ r ≡ rowOf (node ∷ state ∷ marks ∷ []) 0 ⌝ }
 {
     Row {
-        used: state / IN_USE % 2 == 1,
+        used: state / layout::IN_USE % 2 == 1,
         node,
-        key: (state / KEY % KEYS) as u16,
-        highest: (state % IDS) as u32,
-        marks: (marks % MARK_BITS) as u16,
+        key: (state / layout::KEY % layout::KEYS) as u16,
+        highest: (state % layout::IDS) as u32,
+        marks: (marks % layout::MARK_BITS) as u16,
     }
 }
 
@@ -55,33 +26,53 @@ pub fn row_at(table: &[u64; WORDS], number: usize) -> Row
     ensures { λ r. ⌜ r ≡ rowAt (now (table .entry)) number ⌝ }
 {
     if ROWS <= number {
-        return Row {
-            used: false,
-            node: 0,
-            key: 0,
-            highest: 0,
-            marks: 0,
-        };
+        return Row::FREE;
     }
     row_from(
-        table[ROW * number],
-        table[ROW * number + STATE],
-        table[ROW * number + MARKS],
+        table[layout::ROW * number],
+        table[layout::ROW * number + layout::STATE],
+        table[layout::ROW * number + layout::MARKS],
     )
 }
 
+// The row at a number, whose name and use the caller knows already, as after a search: what is left to
+// be read of it is its ids. Past the last row they are zero.
+pub fn row_under(table: &[u64; WORDS], number: usize, node: u64, key: u16) -> Row
+    ensures { λ r. ⌜ r ≡ rowUnder node key (rowAt (now (table .entry)) number) ⌝ }
+{
+    if number < ROWS {
+        return Row {
+            used: true,
+            node,
+            key,
+            highest: (table[layout::ROW * number + layout::STATE] % layout::IDS) as u32,
+            marks: (table[layout::ROW * number + layout::MARKS] % layout::MARK_BITS) as u16,
+        };
+    }
+    Row::open(node, key, 0)
+}
+
 // 1 for a row in use, else 0.
-fn use_bit(used: bool) -> u64
-    ensures { λ r. ⌜ (r ≡ bit used) × (r ≤ 1) ⌝ }
+pub fn use_bit(used: bool) -> u64
+    ensures { λ r. ⌜ (r ≡ oneIf used) × (r ≤ 1) ⌝ }
 {
     if used { 1 } else { 0 }
 }
 
 // Word 1 of a row: in-use bit, key id and highest id.
 pub fn state_of(row: Row) -> u64
-    ensures { λ r. ⌜ r ≡ bit (row .used) * 2 ^ 48 + (row .key * 2 ^ 32 + row .highest) ⌝ }
+    ensures { λ r. ⌜ r ≡ oneIf (row .used) * 2 ^ 48 + (row .key * 2 ^ 32 + row .highest) ⌝ }
 {
-    use_bit(row.used) * IN_USE + (row.key as u64 * KEY + row.highest as u64)
+    use_bit(row.used) * layout::IN_USE + (row.key as u64 * layout::KEY + row.highest as u64)
+}
+
+// Puts a row into three words, whole.
+pub fn put_words(words: &mut [u64; layout::ROW], row: Row)
+    ensures { λ _. ⌜ now (words .exit) ≡ withRow (now (words .entry)) 0 row ⌝ }
+{
+    words[layout::NODE] = row.node;
+    words[layout::STATE] = state_of(row);
+    words[layout::MARKS] = row.marks as u64;
 }
 
 // Puts a row at a number, its three words whole; all other words stay. Past the last row nothing
@@ -92,7 +83,23 @@ pub fn put_row(table: &mut [u64; WORDS], number: usize, row: Row)
     if ROWS <= number {
         return;
     }
-    table[ROW * number] = row.node;
-    table[ROW * number + STATE] = state_of(row);
-    table[ROW * number + MARKS] = row.marks as u64;
+    table[layout::ROW * number] = row.node;
+    table[layout::ROW * number + layout::STATE] = state_of(row);
+    table[layout::ROW * number + layout::MARKS] = row.marks as u64;
+}
+
+// Puts other ids into the row at a number: its name and its use stay as they are. Past the last row
+// nothing changes.
+pub fn put_ids(table: &mut [u64; WORDS], number: usize, highest: u32, marks: u16)
+    ensures { λ _. ⌜ now (table .exit) ≡ putAt (now (table .entry)) number (withIds (rowAt (now (table .entry)) number) highest marks) ⌝ }
+{
+    if ROWS <= number {
+        return;
+    }
+    table[layout::ROW * number + layout::STATE] = table[layout::ROW * number + layout::STATE]
+        / layout::KEY
+        % layout::KEYS_AND_USE
+        * layout::KEY
+        + highest as u64;
+    table[layout::ROW * number + layout::MARKS] = marks as u64;
 }

@@ -7,8 +7,8 @@ use Prim.Native.Nat.{ℕ, suc, _+_, _-_, _%_, _^_, _<_}
 use native.Mathlib.Nat.{mod-eq-of-lt, zero-mod}
 use native.Mathlib.Omega.{arith}
 use lib.Pow.{pow-pos}
-use Rattle.window.specs.Rule.{member, greatest, placeOf, accepts, step, accepted, marksNumber}
-use Rattle.window.specs.Rows.{listOf, rowAt, opened, taken, again, judged, rolledAt}
+use Rattle.window.specs.Rule.{member, greatest, positionAfter, accepts, step, accepted, marksNumber}
+use Rattle.window.specs.Rows.{listOf, rowInUse, opened, taken, again, judged, rolledAt}
 use Rattle.window.specs.History.{Ids, rowAfter, verdictsOf, verdictOf, ruled, Shows}
 use Rattle.window.specs.declared.Row.{Row}
 use Rattle.window.specs.declared.Rolled.{Rolled}
@@ -16,7 +16,10 @@ use Rattle.window.specs.declared.Verdict.{Verdict}
 use Rattle.window.specs.declared.Verdict.the-variants.{New, Duplicate}
 use Rattle.window.proofs.Bits.{number-of, number-lt}
 use Rattle.window.proofs.Positions.{Fits}
-use Rattle.window.proofs.Marks.{Keeps, Far, outcome-first, agree, keeps-far, far-step, step-new}
+use Rattle.window.proofs.Marks.{Keeps, outcome-first}
+use Rattle.window.proofs.Accepting.{step-new}
+use Rattle.window.proofs.Alike.{agree}
+use Rattle.window.proofs.Growing.{Far, keeps-far, far-step}
 use Rattle.window.proofs.Rows.{own, list-used, list-free, keeps-own, keeps-row, either}
 
 -- ---- one message
@@ -42,7 +45,7 @@ judged-verdict W row false ps = refl
 -- the row then shows the list after the id
 judged-shows : (B W : ℕ) (row : Row) (ps : List ℕ) (id : ℕ) → Shows W row ps → Shows W (judged W row (accepts B W ps id) (step B W ps id) .row) (step B W ps id)
 unfolding judged step marksNumber
-judged-shows B W row ps id s = go (accepts B W ps id) (placeOf B ps id)
+judged-shows B W row ps id s = go (accepts B W ps id) (positionAfter B ps id)
   where
     go : (b : Bool) (p : ℕ) → Shows W (judged W row b (cond b (p ∷ ps) ps) .row) (cond b (p ∷ ps) ps)
     go true p = (refl, refl, mod-eq-of-lt (number-lt W (λ k. member (greatest (p ∷ ps) - suc k) (p ∷ ps))))
@@ -83,7 +86,7 @@ stands-own {B} {W} fits row l = go (row .used) refl
 
 -- a row just opened stands for its first id alone
 pub stands-opened : {B W : ℕ} → Fits B W → (node key n : ℕ) → n < 2 ^ 32 → Stands W key (opened node key n) ((n + 2 ^ 32) ∷ [])
-unfolding placeOf greatest
+unfolding positionAfter greatest
 stands-opened {B} {W} fits node key n l =
     let o = outcome-first B W n fits l in
     record {
@@ -101,7 +104,7 @@ all-along P roll on row [] h = h
 all-along P roll on row (id ∷ ids) h = all-along P roll on (roll row id .row) ids (on row id h)
 
 -- a row in use with no other bits is given whole by its name and a list that it shows
-pub whole : (W : ℕ) (row : Row) (ps : List ℕ) → row .used ≡ true → row .marks < 2 ^ W → Shows W row ps → row ≡ rowAt (row .node) (row .key) (greatest ps % 2 ^ 32) (marksNumber W ps)
+pub whole : (W : ℕ) (row : Row) (ps : List ℕ) → row .used ≡ true → row .marks < 2 ^ W → Shows W row ps → row ≡ rowInUse (row .node) (row .key) (greatest ps % 2 ^ 32) (marksNumber W ps)
 whole W row [] u l s = absurd (true≢false (sym u ∙ s))
 whole W row (p ∷ ps) u l s =
     let e : row .marks ≡ marksNumber W (p ∷ ps) = sym (mod-eq-of-lt l) ∙ s .2 in
@@ -150,13 +153,13 @@ module _ {B W : ℕ} {roll : Row → ℕ → Rolled} {key : ℕ} (r : Rolls B W 
 
   -- from its first id on, a row is given whole by the full list
   pub whole-along : (node n : ℕ) → n < 2 ^ 32 → (ids : List ℕ) → Ids ids
-      → let full : List ℕ = accepted B W ((n + 2 ^ 32) ∷ []) ids in rowAfter roll (opened node key n) ids ≡ rowAt node key (greatest full % 2 ^ 32) (marksNumber W full)
+      → let full : List ℕ = accepted B W ((n + 2 ^ 32) ∷ []) ids in rowAfter roll (opened node key n) ids ≡ rowInUse node key (greatest full % 2 ^ 32) (marksNumber W full)
   whole-along node n l ids h =
       let full : List ℕ = accepted B W ((n + 2 ^ 32) ∷ []) ids in
       let k : Kept (rowAfter roll (opened node key n) ids) = all-along Kept roll on (opened node key n) ids (refl, refl, refl, pow-pos W) in
       let s = history (stands-opened (r .fits) node key n l) ids h .1 .shows in
       whole W (rowAfter roll (opened node key n) ids) full (k .0) (k .3) s
-      ∙ (λ i. rowAt (k .1 i) (k .2 i) (greatest full % 2 ^ 32) (marksNumber W full))
+      ∙ (λ i. rowInUse (k .1 i) (k .2 i) (greatest full % 2 ^ 32) (marksNumber W full))
     where
       -- what no message changes
       Kept : Row → Type 0

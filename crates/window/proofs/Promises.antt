@@ -5,6 +5,8 @@
 pub use Rattle.window.proofs.Ledger.{examples-hold}
 -- The short list of a row and any list that it shows, so the full one, give the same answers.
 pub use Rattle.window.proofs.History.{full-list}
+-- A row in use stays in use under its name.
+pub use Rattle.window.proofs.Rows.{stays-in-use}
 -- Only one outcome fits each public contract.
 pub use Rattle.window.proofs.Outcomes.{one-open, one-rolled, one-roll}
 use mathlib.Core.Path.{_≡_, refl, sym, ap, _∙_, subst, subst⁻¹}
@@ -16,15 +18,17 @@ use native.Mathlib.Omega.{arith}
 use native.Mathlib.Decide.{decLe}
 use lib.Bits.{bitOr}
 use borrow.Author.Tests.{eq-eqb, ne-eqb}
-use Rattle.window.specs.Rule.{member, greatest, Placed, positionOf, placeOf, accepts, isNew, step, accepted, marksNumber, bitAt}
-use Rattle.window.specs.Rows.{listOf, rowAt, opened, taken, again, judged, rolledAt, marksHeld, behindPlain, behindEncrypted, behindOf, rolledOf}
+use Rattle.window.specs.Rule.{member, greatest, Placed, positionOf, positionAfter, accepts, isNewPosition, step, accepted, marksNumber, bitAt}
+use Rattle.window.specs.Rows.{listOf, rowInUse, opened, taken, again, judged, rolledAt, marksHeld, behindPlain, behindEncrypted, behindOf, rolledOf}
 use Rattle.window.specs.History.{Ids, rowAfter, verdictOf, Shows, Follows, Distinct, cleared}
 use Rattle.window.specs.declared.Row.{Row}
 use Rattle.window.specs.declared.Rolled.{Rolled}
 use Rattle.window.specs.declared.Verdict.the-variants.{New, Duplicate}
 use Rattle.window.proofs.Lists.{marked-mod, member-here, member-under, member-more}
-use Rattle.window.proofs.Positions.{Fits, position-is, position-one, place-heard, place-id}
-use Rattle.window.proofs.Marks.{Arrival, outcome-ahead, outcome-old, outcome-marked, outcome-filled, marks-say, new-above, new-never, step-old, step-new}
+use Rattle.window.proofs.Positions.{Fits, position-is, position-one, position-heard, position-id}
+use Rattle.window.proofs.Marks.{Arrival, outcome-ahead, outcome-old, outcome-marked, outcome-filled}
+use Rattle.window.proofs.Accepting.{new-above, new-never, step-old, step-new}
+use Rattle.window.proofs.Growing.{marks-say}
 use Rattle.window.proofs.Rows.{fits-gateway, keeps-row, list-distinct, row-old, row-new, row-first, either}
 use Rattle.window.proofs.History.{heardNew, Stands, Rolls, stands-on, was-accepted, refused, history, stands-own, stands-opened, whole-along}
 
@@ -36,12 +40,12 @@ one-position B M id l = (position-is B M id l, position-one B M id)
 
 module _ (B W : ℕ) (ps : List ℕ) where
   -- No position is accepted twice: what is new was not in the list.
-  pub no-position-twice : (id : ℕ) → accepts B W ps id ≡ true → member (placeOf B ps id) ps ≡ false
+  pub no-position-twice : (id : ℕ) → accepts B W ps id ≡ true → member (positionAfter B ps id) ps ≡ false
   unfolding accepts
-  no-position-twice id e = go (member (placeOf B ps id) ps) refl
+  no-position-twice id e = go (member (positionAfter B ps id) ps) refl
     where
-      go : (b : Bool) → member (placeOf B ps id) ps ≡ b → b ≡ false
-      go true h = absurd (true≢false (sym e ∙ new-never W ps (placeOf B ps id) h))
+      go : (b : Bool) → member (positionAfter B ps id) ps ≡ b → b ≡ false
+      go true h = absurd (true≢false (sym e ∙ new-never W ps (positionAfter B ps id) h))
       go false h = refl
 
   -- The greatest position never falls.
@@ -49,7 +53,7 @@ module _ (B W : ℕ) (ps : List ℕ) where
   unfolding step greatest
   greatest-never-falls id = go (accepts B W ps id)
     where
-      go : (b : Bool) → greatest ps ≤ greatest (cond b (placeOf B ps id ∷ ps) ps)
+      go : (b : Bool) → greatest ps ≤ greatest (cond b (positionAfter B ps id ∷ ps) ps)
       go true = omega arith
       go false = le-refl (greatest ps)
 
@@ -75,8 +79,8 @@ unfolding accepted step
 accepted-stays B W ps [] p h = h
 accepted-stays B W ps (id ∷ ids) p h = accepted-stays B W (step B W ps id) ids p (go (accepts B W ps id))
   where
-    go : (b : Bool) → member p (cond b (placeOf B ps id ∷ ps) ps) ≡ true
-    go true = member-more p (placeOf B ps id) ps h
+    go : (b : Bool) → member p (cond b (positionAfter B ps id ∷ ps) ps) ≡ true
+    go true = member-more p (positionAfter B ps id) ps h
     go false = h
 
 module _ (B W : ℕ) (fits : Fits B W) (ps : List ℕ) (p : ℕ) (was : member p ps ≡ true) where
@@ -84,7 +88,7 @@ module _ (B W : ℕ) (fits : Fits B W) (ps : List ℕ) (p : ℕ) (was : member p
   pub still-duplicate : greatest ps ≤ p + B → accepts B W ps (p % 2 ^ 32) ≡ false
   unfolding accepts
   still-duplicate l =
-      ap (isNew W ps) (place-heard B ps (p % 2 ^ 32) p p was (refl, omega arith, omega (arith, member-under p ps was))) ∙ new-never W ps p was
+      ap (isNewPosition W ps) (position-heard B ps (p % 2 ^ 32) p p was (refl, omega arith, omega (arith, member-under p ps was))) ∙ new-never W ps p was
 
   -- It comes back as new only after the greatest position has gone at least B + 1 past its earlier one.
   pub new-again-only-after : accepts B W ps (p % 2 ^ 32) ≡ true → p + B + 1 ≤ greatest ps
@@ -98,7 +102,7 @@ module _ (B W : ℕ) (fits : Fits B W) (ps : List ℕ) (p : ℕ) (was : member p
   pub new-again : p + B + 1 ≡ greatest ps → B + 1 < 2 ^ 32 → accepts B W ps (p % 2 ^ 32) ≡ true
   unfolding accepts
   new-again e l =
-      ap (isNew W ps) (place-heard B ps (p % 2 ^ 32) (p + 2 ^ 32) p was (omega arith))
+      ap (isNewPosition W ps) (position-heard B ps (p % 2 ^ 32) (p + 2 ^ 32) p was (omega arith))
       ∙ new-above W ps (p + 2 ^ 32) (omega arith)
 
 -- ---- a row, over B and W
@@ -172,7 +176,7 @@ module _ {B W : ℕ} {roll : Row → ℕ → Rolled} {key : ℕ} (r : Rolls B W 
   -- From its first id n: it follows the rule on the list that starts at n + 2^32, and the full list gives the whole row.
   pub history-from-the-first-id : (node n : ℕ) → n < 2 ^ 32 → (ids : List ℕ) → Ids ids
       → let full : List ℕ = accepted B W ((n + 2 ^ 32) ∷ []) ids in
-      Follows B W roll (opened node key n) ((n + 2 ^ 32) ∷ []) ids × (rowAfter roll (opened node key n) ids ≡ rowAt node key (greatest full % 2 ^ 32) (marksNumber W full))
+      Follows B W roll (opened node key n) ((n + 2 ^ 32) ∷ []) ids × (rowAfter roll (opened node key n) ids ≡ rowInUse node key (greatest full % 2 ^ 32) (marksNumber W full))
   history-from-the-first-id node n l ids h =
       let on = history r (stands-opened (r .fits) node key n l) ids h in
       ((on .0, on .1 .shows), whole-along r node n l ids h)
@@ -180,15 +184,15 @@ module _ {B W : ℕ} {roll : Row → ℕ → Rolled} {key : ℕ} (r : Rolls B W 
   -- An id that a row took as new is a duplicate after any further ids, while the greatest position is at most B past its own.
   pub taken-once : {row : Row} {ps : List ℕ} → Stands W key row ps → (id : ℕ) → id < 2 ^ 32 → (ids : List ℕ) → Ids ids
       → roll row id .verdict ≡ New
-      → greatest (accepted B W (step B W ps id) ids) ≤ placeOf B ps id + B
+      → greatest (accepted B W (step B W ps id) ids) ≤ positionAfter B ps id + B
       → let later : Row = rowAfter roll (roll row id .row) ids in roll later id ≡ again later
   taken-once {row} {ps} s id l ids h new near =
-      let p : ℕ = placeOf B ps id in
+      let p : ℕ = positionAfter B ps id in
       let full : List ℕ = accepted B W (step B W ps id) ids in
       let was : member p full ≡ true =
       accepted-stays B W (step B W ps id) ids p (ap (member p) (step-new B W ps id (was-accepted r s id l new)) ∙ member-here p p ps refl) in
       refused r (history r (stands-on r s id l) ids h .1) id l
-      (ap (accepts B W full) (sym (place-id B ps id l)) ∙ still-duplicate B W (r .fits) full p was near)
+      (ap (accepts B W full) (sym (position-id B ps id l)) ∙ still-duplicate B W (r .fits) full p was near)
 
 -- ---- the gateway's rows
 
@@ -278,7 +282,7 @@ pub held-back-old-report-is-never-new-again : (row : Row) → (row .key ≡ 0 �
     let late : Row = rowAfter rolledOf (rolledOf early report .row) after in
     let ps : List ℕ = accepted (2 ^ 31) marksHeld (listOf marksHeld row) before in
     rolledOf early report .verdict ≡ New
-    → greatest (accepted (2 ^ 31) marksHeld (step (2 ^ 31) marksHeld ps report) after) ≤ placeOf (2 ^ 31) ps report + 2 ^ 31
+    → greatest (accepted (2 ^ 31) marksHeld (step (2 ^ 31) marksHeld ps report) after) ≤ positionAfter (2 ^ 31) ps report + 2 ^ 31
     → rolledOf late report ≡ again late
 held-back-old-report-is-never-new-again row n l before hb report lr after ha =
     let r = encrypted-gateway (row .key) n in

@@ -1,12 +1,12 @@
 -- The laws at a row, over B and W: what it stands for, and what rolling it can come to. Assumes nothing.
-use mathlib.Core.Path.{_≡_, sym, ap, ap₂, _∙_, subst⁻¹}
+use mathlib.Core.Path.{_≡_, refl, sym, ap, ap₂, _∙_, subst⁻¹}
 use mathlib.Core.Bool.{Bool, true, false, cond}
 use mathlib.Core.List.{List, [], _∷_}
 use Prim.Native.Nat.{ℕ, suc, _+_, _-_, _%_, _^_, _<_}
 use native.Mathlib.Omega.{arith}
 use lib.Dec.{eqb}
 use Rattle.window.specs.Rule.{member, greatest, marked, accepts, step, marksNumber}
-use Rattle.window.specs.Rows.{listOf, taken, again, judged, rolledAt, marksHeld, behindPlain, behindEncrypted, behindOf}
+use Rattle.window.specs.Rows.{listOf, taken, again, judged, rolledAt, marksHeld, behindPlain, behindEncrypted, behindOf, rolledOf}
 use Rattle.window.specs.History.{Distinct}
 use Rattle.window.specs.declared.Row.{Row}
 use Rattle.window.specs.declared.Rolled.{Rolled}
@@ -93,3 +93,11 @@ either B W row id P t a = go (accepts B W (listOf W row) id) (step B W (listOf W
     go : (b : Bool) (ps : List ℕ) → P (judged W row b ps)
     go true ps = t (greatest ps % 2 ^ 32) (marksNumber W ps) (number-lt W (λ k. member (greatest ps - suc k) ps))
     go false ps = a
+
+-- a row in use stays in use under its name
+pub stays-in-use : (row : Row) (id : ℕ) → row .used ≡ true
+    → (rolledOf row id .row .used ≡ true) × (rolledOf row id .row .node ≡ row .node) × (rolledOf row id .row .key ≡ row .key)
+unfolding rolledOf
+stays-in-use row id u =
+    either (behindOf (row .key)) marksHeld row id (λ r. (r .row .used ≡ true) × (r .row .node ≡ row .node) × (r .row .key ≡ row .key))
+    (λ h m l. (refl, refl, refl)) (u, refl, refl)

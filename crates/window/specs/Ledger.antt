@@ -1,8 +1,8 @@
--- The ledger of examples, P1 to P12, as one set. Where the document gives no marks (P2, P8, P9) the example has any marks m. Assumes nothing.
+-- The ledger of examples, P1 to P12. Where the document gives no marks (P2, P8, P9) the example has any marks m. Assumes nothing.
 use Prim.Native.Nat.{ℕ, _+_, _-_, _^_}
 use mathlib.Core.Bool.{false}
-use mathlib.Core.List.{List, [], _∷_}
-use Rattle.window.specs.Rows.{rowAt}
+use mathlib.Core.Path.{_≡_}
+use Rattle.window.specs.Rows.{rowInUse, rolledOf}
 use Rattle.window.specs.declared.Row.{Row}
 use Rattle.window.specs.declared.Rolled.{Rolled}
 use Rattle.window.specs.declared.Verdict.{Verdict}
@@ -17,7 +17,7 @@ pub record Example : Type 0 where
 -- one whose row has this highest id and these marks afterwards
 abbrev pub example : Row → ℕ → Verdict → ℕ → ℕ → Example
 example row n verdict highest marks =
-    record { before = row; id = n; result = record { verdict = verdict; row = rowAt (row .node) (row .key) highest marks } }
+    record { before = row; id = n; result = record { verdict = verdict; row = rowInUse (row .node) (row .key) highest marks } }
 
 -- mark k as a number
 abbrev pub mark : ℕ → ℕ
@@ -28,50 +28,50 @@ abbrev pub none : Row
 none = record { used = false; node = 14; key = 0x1001; highest = 0; marks = 0 }
 
 -- an encrypted row with this highest id and these marks
-abbrev pub encrypted : ℕ → ℕ → Row
-encrypted highest marks = rowAt 14 0x1001 highest marks
+abbrev pub encryptedRow : ℕ → ℕ → Row
+encryptedRow highest marks = rowInUse 14 0x1001 highest marks
 
 -- a plain one
-abbrev pub plain : ℕ → ℕ → Row
-plain highest marks = rowAt 14 0 highest marks
+abbrev pub plainRow : ℕ → ℕ → Row
+plainRow highest marks = rowInUse 14 0 highest marks
 
 -- ---- the examples, in the ledger's order: row before, id, verdict, highest and marks afterwards
 abbrev pub P1 : Example
 P1 = example none 5 New 5 0
 
 abbrev pub P2 : ℕ → Example
-P2 m = example (encrypted 5 m) 5 Duplicate 5 m
+P2 m = example (encryptedRow 5 m) 5 Duplicate 5 m
 
 abbrev pub P3 : Example
-P3 = example (encrypted 5 0) 4 New 5 (mark 1)
+P3 = example (encryptedRow 5 0) 4 New 5 (mark 1)
 
 abbrev pub P4 : Example
-P4 = example (encrypted 20 0) 5 New 20 (mark 15)
+P4 = example (encryptedRow 20 0) 5 New 20 (mark 15)
 
 abbrev pub P5 : Example
-P5 = example (encrypted 20 0) 4 Duplicate 20 0
+P5 = example (encryptedRow 20 0) 4 Duplicate 20 0
 
 abbrev pub P6 : Example
-P6 = example (plain 20 0) 4 New 4 0
+P6 = example (plainRow 20 0) 4 New 4 0
 
 abbrev pub P7 : Example
-P7 = example (encrypted 4294967295 0) 0 New 0 (mark 1)
+P7 = example (encryptedRow 4294967295 0) 0 New 0 (mark 1)
 
 abbrev pub P8 : ℕ → Example
-P8 m = example (encrypted 0 m) 2147483647 New 2147483647 0
+P8 m = example (encryptedRow 0 m) 2147483647 New 2147483647 0
 
 abbrev pub P9 : ℕ → Example
-P9 m = example (encrypted 0 m) 2147483648 Duplicate 0 m
+P9 m = example (encryptedRow 0 m) 2147483648 Duplicate 0 m
 
 abbrev pub P10 : Example
-P10 = example (encrypted 10 (mark 1 + mark 3)) 13 New 13 (mark 3 + mark 4 + mark 6)
+P10 = example (encryptedRow 10 (mark 1 + mark 3)) 13 New 13 (mark 3 + mark 4 + mark 6)
 
 abbrev pub P11 : Example
-P11 = example (encrypted 10 (mark 1)) 25 New 25 (mark 15)
+P11 = example (encryptedRow 10 (mark 1)) 25 New 25 (mark 15)
 
 abbrev pub P12 : Example
-P12 = example (encrypted 10 (mark 1)) 26 New 26 0
+P12 = example (encryptedRow 10 (mark 1)) 26 New 26 0
 
--- all of them
-abbrev pub ledger : ℕ → List Example
-ledger m = P1 ∷ P2 m ∷ P3 ∷ P4 ∷ P5 ∷ P6 ∷ P7 ∷ P8 m ∷ P9 m ∷ P10 ∷ P11 ∷ P12 ∷ []
+-- an example holds where rolling its row by its id gives what it says
+abbrev pub Holds : Example → Type 0
+Holds e = rolledOf (e .before) (e .id) ≡ e .result

@@ -13,16 +13,16 @@ unfoldable pub listOf : ℕ → Row → List ℕ
 listOf W row = cond (row .used) ((row .highest + 2 ^ 32) ∷ marked W (row .marks) (row .highest + 2 ^ 32)) []
 
 -- a row in use
-abbrev pub rowAt : ℕ → ℕ → ℕ → ℕ → Row
-rowAt node key highest marks = record { used = true; node = node; key = key; highest = highest; marks = marks }
+abbrev pub rowInUse : ℕ → ℕ → ℕ → ℕ → Row
+rowInUse node key highest marks = record { used = true; node = node; key = key; highest = highest; marks = marks }
 
 -- a row opened for a first message: no marks
 abbrev pub opened : ℕ → ℕ → ℕ → Row
-opened node key id = rowAt node key id 0
+opened node key id = rowInUse node key id 0
 
 -- new: the row is in use under the name it had, with this highest id and these marks
 abbrev pub taken : Row → ℕ → ℕ → Rolled
-taken row highest marks = record { verdict = New; row = rowAt (row .node) (row .key) highest marks }
+taken row highest marks = record { verdict = New; row = rowInUse (row .node) (row .key) highest marks }
 
 -- duplicate: the row is as it was
 abbrev pub again : Row → Rolled

@@ -25,21 +25,21 @@ unfoldable pub positionOf : ℕ → ℕ → ℕ → ℕ
 positionOf B M id = (M - B) + (id + 2 ^ 32 - (M - B) % 2 ^ 32) % 2 ^ 32
 
 -- the position of an arriving id: of the first it is the id plus 2^32, later it goes by the greatest
-unfoldable pub placeOf : ℕ → List ℕ → ℕ → ℕ
-placeOf B [] id = id + 2 ^ 32
-placeOf B (q ∷ qs) id = positionOf B (greatest (q ∷ qs)) id
+unfoldable pub positionAfter : ℕ → List ℕ → ℕ → ℕ
+positionAfter B [] id = id + 2 ^ 32
+positionAfter B (q ∷ qs) id = positionOf B (greatest (q ∷ qs)) id
 
 -- new: above the greatest, or among the W below it and not yet accepted
-unfoldable pub isNew : ℕ → List ℕ → ℕ → Bool
-isNew W ps p = ltb (greatest ps) p || leb (greatest ps - W) p && ltb p (greatest ps) && not (member p ps)
+unfoldable pub isNewPosition : ℕ → List ℕ → ℕ → Bool
+isNewPosition W ps p = ltb (greatest ps) p || leb (greatest ps - W) p && ltb p (greatest ps) && not (member p ps)
 
 -- is an arriving id new?
 unfoldable pub accepts : ℕ → ℕ → List ℕ → ℕ → Bool
-accepts B W ps id = isNew W ps (placeOf B ps id)
+accepts B W ps id = isNewPosition W ps (positionAfter B ps id)
 
 -- the list after an arriving id: what is new joins it
 unfoldable pub step : ℕ → ℕ → List ℕ → ℕ → List ℕ
-step B W ps id = cond (accepts B W ps id) (placeOf B ps id ∷ ps) ps
+step B W ps id = cond (accepts B W ps id) (positionAfter B ps id ∷ ps) ps
 
 -- the list after ids that arrive one after the other: nothing is forgotten
 unfoldable pub accepted : ℕ → ℕ → List ℕ → List ℕ → List ℕ

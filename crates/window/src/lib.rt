@@ -40,7 +40,15 @@ impl Row {
     // How far behind the highest an id of a plain row may lie.
     pub const BEHIND_PLAIN: u32 = 15;
     // The least number above all marks.
-    const ABOVE_MARKS: u32 = 1 << Row::MARKS;
+    pub const ABOVE_MARKS: u32 = 1 << Row::MARKS;
+    // A free row, and zero in every field.
+    pub const FREE: Row = Row {
+        used: false,
+        node: 0,
+        key: 0,
+        highest: 0,
+        marks: 0,
+    };
 
     // A row in use under this name, whose first accepted id is `id`: it has no marks.
     pub fn open(node: u64, key: u16, id: u32) -> Row

@@ -1,11 +1,11 @@
 -- Numbers as bytes there and back, over the width. Assumes nothing.
-use Prim.Native.Nat.{ℕ, zero, suc, _+_, _*_, _/_, _%_, _^_, _≤_, _<_}
+use Prim.Native.Nat.{ℕ, zero, suc, _+_, _*_, _/_, _%_, _^_, _<_}
 use mathlib.Core.Path.{_≡_, refl, sym, ap, ap₂, _∙_}
 use mathlib.Core.List.{List, [], _∷_, _++_, reverse, reverse-reverse, reverse-cons}
 use native.Mathlib.Omega.{arith}
 use native.Mathlib.Nat.{pow-suc, pow-succ', mul-assoc}
 use lib.ListN.{length, getD, take, length-reverse}
-use Rattle.wire.specs.Bytes.{part, little, big, littleBytes, bigBytes}
+use Rattle.wire.specs.Bytes.{little, big, littleBytes, bigBytes}
 
 pub length-little : (w x : ℕ) → length (littleBytes w x) ≡ w
 length-little zero x = refl

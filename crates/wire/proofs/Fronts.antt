@@ -7,7 +7,7 @@ use native.Mathlib.Omega.{arith}
 use native.Mathlib.Nat.{zero-add}
 use borrow.Author.Tests.{le-leb, lt-leb, leb-true, leb-false}
 use lib.ListN.{length, getD, take, drop}
-use lib.Seq.{sets, sets-eq, drop-cons, take-all, length-take-le}
+use lib.Seq.{sets, sets-eq, drop-cons, length-take-le}
 use lib.Dec.{leb}
 use mathlib.Core.Bool.{true, false}
 use Rattle.wire.specs.Bytes.{part, little, big, littleBytes, bigBytes, front, placed}

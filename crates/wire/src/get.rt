@@ -48,7 +48,7 @@ pub fn get32(bytes: &[u8]) -> u32
 }
 
 // The first eight bytes, low byte first.
-pub fn get64(bytes: &[u8]) -> u64
+pub(crate) fn get64(bytes: &[u8]) -> u64
     ensures { λ r. ⌜ r ≡ little (front 8 (now (bytes .entry))) ⌝ }
 {
     if bytes.len() < 8 {

@@ -40,7 +40,7 @@ pub fn put32(out: &mut [u8], x: u32)
 }
 
 // Eight bytes, low byte first.
-pub fn put64(out: &mut [u8], x: u64)
+pub(crate) fn put64(out: &mut [u8], x: u64)
     ensures { λ _. ⌜ now (out .exit) ≡ placed (littleBytes 8 x) (now (out .entry)) ⌝ }
 {
     if out.len() < 8 {

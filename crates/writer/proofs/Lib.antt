@@ -1,5 +1,3 @@
 pub mod Maybe
-pub mod Steps
+pub mod Stored
 pub mod Bare
-pub mod Writings
-pub mod Clear

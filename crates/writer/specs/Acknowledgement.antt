@@ -2,14 +2,14 @@
 use Prim.Native.Nat.{ℕ, zero, suc}
 use mathlib.Core.Bool.{true, false, not}
 use mathlib.Core.List.{List, [], _∷_}
-use Rattle.message.specs.Layout.{checkLength}
+use Rattle.message.specs.Layout.{only, encrypted, checkLength}
 use Rattle.message.specs.Value.{bytesOf}
 use Rattle.message.specs.declared.value.Message.{Message}
 use Rattle.message.specs.declared.answers.Writing.{Writing}
-use Rattle.writer.specs.Writing.{writeOf}
+use Rattle.judge.specs.Writing.{writeOf}
 
 -- its value, of the message m that it answers: version 2, general, from the own node to the sender, under the id given; encrypt type, key
--- id and exchange id as received; I reversed, A and not R; type 2 of profile 0; the acknowledged id is the received one
+-- id (0 if plain) and exchange id as received; I reversed, A and not R; type 2 of profile 0; the acknowledged id is the received one
 unfoldable pub acknowledgementOf : ℕ → ℕ → ℕ → Message → Message
 acknowledgementOf own sender id m =
     record {
@@ -21,7 +21,7 @@ acknowledgementOf own sender id m =
       id = id;
       source = own;
       destination = sender;
-      key = m .key;
+      key = only (encrypted m) (m .key);
       initiator = not (m .initiator);
       acknowledges = true;
       wants = false;

@@ -1,4 +1,3 @@
 -- What the contracts of `writer` cite.
-pub mod Writing
 pub mod Steps
 pub mod Acknowledgement

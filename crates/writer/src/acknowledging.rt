@@ -8,10 +8,9 @@ ghost use lib.Seq.{sets};
 ghost use Rattle.message.specs.Order.{first};
 ghost use Rattle.message.specs.Layout.{only};
 ghost use Rattle.message.specs.Refusals.{total};
-ghost use Rattle.message.specs.Answers.{bufferAfter};
+ghost use Rattle.message.specs.Answers.{writing, bufferAfter};
 ghost use Rattle.writer.specs.Acknowledgement.{acknowledgementOf, zeros, acknowledgementBytes, acknowledging};
 ghost use Rattle.writer.specs.Steps.{acknowledgingOrder};
-use crate::judging;
 use crate::stores;
 use crate::writing;
 use message::Message;
@@ -40,7 +39,7 @@ fn acknowledgement(own: u64, sender: u64, id: u32, m: Message) -> Message
         id,
         source: own,
         destination: sender,
-        key: m.key,
+        key: writing::only16(m.encrypt == layout::ENCRYPTED, m.key),
         initiator: !m.initiator,
         acknowledges: true,
         wants: false,
@@ -51,31 +50,26 @@ fn acknowledgement(own: u64, sender: u64, id: u32, m: Message) -> Message
     }
 }
 
-// The length of a message without payload.
-fn bare_length(value: Message) -> usize
-    ensures { λ r. ⌜ r ≡ total value [] ⌝ }
-{
-    message::head_length(value) + message::check_length(value)
-}
-
-// The number of the refusal of an acknowledgement's value, or 0.
-fn refusal_of(value: Message, room: usize) -> u8
-    ensures { λ r. ⌜ r ≡ first (acknowledgingOrder value room) ⌝ }
+// What writing the value of an acknowledgement answers, by its own order.
+fn judged(value: Message, room: usize) -> Writing
+    ensures { λ r. ⌜ r ≡ writing (first (acknowledgingOrder value room)) (total value []) ⌝ }
 {
     if message::bad_encrypt(value.encrypt) {
-        return Refusal::ENCRYPT;
+        return Writing::Refused(Refusal {
+            number: Refusal::ENCRYPT,
+        });
     }
     let by_address = message::address_refusal(value);
     if by_address != 0 {
-        return by_address;
+        return Writing::Refused(Refusal { number: by_address });
     }
-    if judging::stray_address(value) {
-        return Refusal::STRAY;
+    let total = message::head_length(value) + message::check_length(value);
+    if room < total {
+        return Writing::Refused(Refusal {
+            number: Refusal::NO_ROOM,
+        });
     }
-    if room < bare_length(value) {
-        return Refusal::NO_ROOM;
-    }
-    0
+    Writing::Written(total)
 }
 
 // Blank check bytes, if there are any.
@@ -93,12 +87,7 @@ fn store_blank(present: bool, out: &mut [u8], at: usize)
 pub fn would_acknowledge(own: u64, sender: u64, id: u32, m: Message, room: usize) -> Writing
     ensures { λ r. ⌜ r ≡ acknowledging (acknowledgementOf own sender id m) room ⌝ }
 {
-    let value = acknowledgement(own, sender, id, m);
-    let number = refusal_of(value, room);
-    if number != 0 {
-        return Writing::Refused(Refusal { number });
-    }
-    Writing::Written(bare_length(value))
+    judged(acknowledgement(own, sender, id, m), room)
 }
 
 // The acknowledgement of `m` at the front of a buffer, from the own node to the sender, under its own
@@ -107,12 +96,13 @@ pub fn acknowledge(own: u64, sender: u64, id: u32, m: Message, out: &mut [u8]) -
     ensures { λ r. ⌜ (r ≡ acknowledging (acknowledgementOf own sender id m) (length (now (out .entry)))) × (now (out .exit) ≡ bufferAfter r (acknowledgementBytes (acknowledgementOf own sender id m)) (now (out .entry))) ⌝ }
 {
     let value = acknowledgement(own, sender, id, m);
-    let number = refusal_of(value, out.len());
-    if number != 0 {
-        return Writing::Refused(Refusal { number });
+    let answer = judged(value, out.len());
+    match answer {
+        Writing::Written(n) => {
+            let end = writing::store_head(out, value);
+            store_blank(value.encrypt == layout::ENCRYPTED, out, end);
+            Writing::Written(n)
+        }
+        Writing::Refused(refusal) => Writing::Refused(refusal),
     }
-    let at = writing::store_address(out, value);
-    let end = writing::store_exchange(out, at, value);
-    store_blank(value.encrypt == layout::ENCRYPTED, out, end);
-    Writing::Written(bare_length(value))
 }

@@ -6,15 +6,14 @@ ghost use lib.Seq.{sets};
 ghost use Rattle.message.specs.Layout.{only, bodyOf, headLength};
 ghost use Rattle.message.specs.Value.{headerOf, exchangeHeaderOf, addressBytes, exchangeBytes, headBytes, bytesOf};
 ghost use Rattle.message.specs.Answers.{bufferAfter};
-ghost use Rattle.writer.specs.Writing.{writeOf};
-use crate::judging;
+ghost use Rattle.judge.specs.Writing.{writeOf};
 use crate::stores;
 use message::Message;
 use message::Writing;
 use message::layout;
 
-// A bit where a flag is set, else 0.
-fn only16(on: bool, n: u16) -> u16
+// A number where a flag is set, else 0.
+pub(crate) fn only16(on: bool, n: u16) -> u16
     ensures { λ r. ⌜ (r ≡ only on n) × (r ≤ n) ⌝ }
 {
     if on { n } else { 0 }
@@ -49,31 +48,31 @@ fn exchange_header_of(m: Message) -> u8
 }
 
 // Header, message id, source, destination, key id.
-pub(crate) fn store_address(out: &mut [u8], m: Message) -> usize
+fn store_address(out: &mut [u8], m: Message) -> usize
     requires { ⌜ (bodyOf m ≤ length (now out)) × (m .version ≤ 2) × (m .encrypt ≤ 1) ⌝ }
     ensures { λ r. ⌜ (r ≡ bodyOf m) × (now (out .exit) ≡ sets (now (out .entry)) 0 (addressBytes m)) ⌝ }
 {
-    let a = stores::store16(out, layout::HEADER_AT, header_of(m));
-    let b = stores::store32(out, a, m.id);
-    let c = stores::store_maybe_node(m.sourced, out, b, m.source);
-    let d = stores::store_maybe_node(m.destined, out, c, m.destination);
-    stores::store_maybe16(m.encrypt == layout::ENCRYPTED, out, d, m.key)
+    let a = stores::store16(stores::PRESENT, out, layout::HEADER_AT, header_of(m));
+    let b = stores::store32(stores::PRESENT, out, a, m.id);
+    let c = stores::store_node(m.sourced, out, b, m.source);
+    let d = stores::store_node(m.destined, out, c, m.destination);
+    stores::store16(m.encrypt == layout::ENCRYPTED, out, d, m.key)
 }
 
 // Exchange header, type, exchange id, profile id, acknowledged id.
-pub(crate) fn store_exchange(out: &mut [u8], at: usize, m: Message) -> usize
+fn store_exchange(out: &mut [u8], at: usize, m: Message) -> usize
     requires { ⌜ at + 8 + only (m .acknowledges) 4 ≤ length (now out) ⌝ }
     ensures { λ r. ⌜ (r ≡ at + 8 + only (m .acknowledges) 4) × (now (out .exit) ≡ sets (now (out .entry)) at (exchangeBytes m)) ⌝ }
 {
     let a = stores::store8(out, at, exchange_header_of(m));
     let b = stores::store8(out, a, m.kind);
-    let c = stores::store16(out, b, m.exchange);
-    let d = stores::store32(out, c, m.profile);
-    stores::store_maybe32(m.acknowledges, out, d, m.acknowledged)
+    let c = stores::store16(stores::PRESENT, out, b, m.exchange);
+    let d = stores::store32(stores::PRESENT, out, c, m.profile);
+    stores::store32(m.acknowledges, out, d, m.acknowledged)
 }
 
 // All that stands before the payload or the packet.
-fn store_head(out: &mut [u8], m: Message) -> usize
+pub(crate) fn store_head(out: &mut [u8], m: Message) -> usize
     requires { ⌜ (headLength m ≤ length (now out)) × (m .version ≤ 2) × (m .encrypt ≤ 1) ⌝ }
     ensures { λ r. ⌜ (r ≡ headLength m) × (now (out .exit) ≡ sets (now (out .entry)) 0 (headBytes m)) ⌝ }
 {
@@ -89,7 +88,7 @@ fn store_head(out: &mut [u8], m: Message) -> usize
 pub fn write(m: Message, payload: &[u8], check: &[u8], out: &mut [u8]) -> Writing
     ensures { λ r. ⌜ (r ≡ writeOf m (now (payload .entry)) (now (check .entry)) (length (now (out .entry)))) × (now (out .exit) ≡ bufferAfter r (bytesOf m (now (payload .entry)) (now (check .entry))) (now (out .entry))) ⌝ }
 {
-    let answer = judging::would_write(m, payload, check, out.len());
+    let answer = judge::would_write(m, payload, check, out.len());
     match answer {
         Writing::Written(n) => {
             let a = store_head(out, m);

@@ -8,7 +8,7 @@ use Rattle.gateway.proofs.rows.kabizarle_roll.Tie as tie
 returns : tie.Need-returns
 returns c =
     let a = c .before .before .before .before .before .before .before .before .before .args in
-    (refl, rolled-new (a .row .now) (a .id) _ _ (c .before .before .before .before .before .row-from .ensures) (c .before .before .before .before .rolled .ensures) _ (c .before .before .enum-told .given .1) (c .put .ensures))
+    (refl, rolled-new (a .row .now) (a .id) _ _ (c .before .before .before .before .before .row-from .ensures) (c .before .before .before .before .rolled .ensures) _ (c .before .before .enum-told .given .1) (c .put-words .ensures))
 
 returns-2 : tie.Need-returns-2
 returns-2 c =

@@ -9,13 +9,14 @@ use Rattle.gateway.proofs.rows.store_row.Tie as tie
 
 returns : tie.Need-returns
 unfolding rowPlaces
-returns c = let a = c .before .before .before .before .before in rw (c .before .before .before .use-bit .ensures) (stored5 (a .args .row .now) _ _ _ _ _ (a .pre))
+returns c = let a = c .before .before .before .before .before in rw (c .before .before .before .use-bit .ensures .0) (stored5 (a .args .row .now) _ _ _ _ _ (a .pre))
 
 pub store-row-spec : {M : Type 1} → statement M
 store-row-spec =
     tie.close
     (tie.spec
     (λ c κs. search needs)
+    (λ c. search needs)
     (λ c. search needs)
     (λ c. search needs)
     (λ c. search needs)

@@ -4,7 +4,7 @@ use lib.ListN.{length}
 use Rattle.message.specs.Answers.{readingNumber}
 use Rattle.message.specs.declared.answers.Reading.{Reading}
 use Rattle.message.proofs.Logic.{so}
-use Rattle.format.proofs.Taken.{header-is}
+use Rattle.format.proofs.Taken.{as-taken, header-is}
 use Rattle.places.proofs.Promises.{with-header}
 use Rattle.gateway_format.specs.Messages.{readAfter}
 use borrow.Author.Needs.{needs}
@@ -15,8 +15,8 @@ returns : tie.Need-returns
 returns c =
     let a = c .before .before .before .before .before .before .before .before .args in
     let e = so (c .before .before .before .before .before .before .read .ensures) (c .before .before .before .before .reading .given .1) in
-    let h = header-is _ _ e _ (c .before .before .get16 .ensures) (search needs) in
-    (sym (ap readingNumber e), c .store .ensures ∙ with-header _ _ _ _ _ h ∙ sym (ap (λ (r : Reading). readAfter r (length (a .bytes .now)) (a .fields .now)) e))
+    let h = header-is _ _ (as-taken _ _ _ e) _ (c .before .before .get16 .ensures) (search needs) in
+    (sym (ap readingNumber e), c .store .ensures ∙ with-header _ _ _ _ _ _ h ∙ sym (ap (λ (r : Reading). readAfter r (length (a .bytes .now)) (a .fields .now)) e))
 
 returns-2 : tie.Need-returns-2
 returns-2 c =

@@ -1,14 +1,15 @@
 -- Where outer reading took the message, the rest of the order decides, by the kind of message. Assumes nothing.
-use mathlib.Core.Path.{sym, ap, _∙_}
-use native.Mathlib.Omega.{arith}
+use mathlib.Core.Path.{sym, _∙_}
 use Rattle.message.proofs.Logic.{so}
-use Rattle.reader.proofs.Readings.{read-tunnelled, read-general, read-refused, tunnel-room, exchange-room}
+use Rattle.reader.proofs.Readings.{read-tunnelled, read-general, read-refused, no-flags, tunnel-room, exchange-room}
 use borrow.Author.Needs.{needs}
 use Rattle.reader.proofs.reading.read.Statement.{statement}
 use Rattle.reader.proofs.reading.read.Tie as tie
 
 read-tunnel-requires : tie.Need-read-tunnel-requires
-read-tunnel-requires c κs = tunnel-room _ _ (so (c .before .before .before .before .begin .ensures) (c .before .before .begun .given .1)) (c .if1 .taken)
+read-tunnel-requires c κs =
+    let e = so (c .before .before .before .before .begin .ensures) (c .before .before .begun .given .1) in
+    (c .if1 .taken, no-flags _ _ e, tunnel-room _ _ e (c .if1 .taken))
 
 returns : tie.Need-returns
 returns c = c .read-tunnel .ensures ∙ sym (read-tunnelled _ _ (so (c .before .before .before .before .before .begin .ensures) (c .before .before .before .begun .given .1)) (c .before .if1 .taken))

@@ -1,76 +1,64 @@
--- Each answer stands at the first condition that holds; the value is that of the steps. Assumes nothing.
-use Prim.Native.Nat.{ℕ}
-use mathlib.Core.Path.{refl, sym, ap, _∙_}
-use mathlib.Core.Bool.{Bool}
+-- Each answer stands at the first condition that holds; then its fields decide. Assumes nothing.
+use Prim.Native.Nat.{ℕ, _+_, _≤_}
+use mathlib.Core.Path.{_≡_, sym, ap, _∙_}
 use native.Mathlib.Omega.{arith}
-use borrow.Author.Tests.{not-true, not-false}
-use Rattle.message.proofs.Logic.{so}
-use Rattle.message.specs.Layout.{only}
-use Rattle.message.specs.Value.{bit}
+use lib.ListN.{length}
 use Rattle.wire.specs.Bytes.{part, little}
-use Rattle.message.specs.declared.answers.Reading.the-variants.{Taken}
-use Rattle.reader.specs.Reading.{exchangeOrder}
-use Rattle.reader.specs.Steps.{exchanged, exchangeOf}
-use Rattle.reader.proofs.Steps.{exchange-bare, exchange-lacks, exchange-whole}
+use Rattle.wire.proofs.Places.{place-get}
+use Rattle.message.proofs.Logic.{so}
+use Rattle.message.specs.Layout.{bodyOf}
+use Rattle.reader.proofs.Steps.{exchange-header, exchange-asks, exchange-fields}
 use borrow.Author.Needs.{needs}
 use Rattle.reader.proofs.reading.read_exchange.Statement.{statement}
 use Rattle.reader.proofs.reading.read_exchange.Tie as tie
 
+room : (c : tie.After-body-of) → c .body-of .result + 1 ≤ length (c .before .before .args .bytes .now)
+room c = omega (arith, c .body-of .ensures .0, c .before .before .pre .1)
+
+-- the exchange header, at its place
+head : (c : tie.After-get8) → c .get8 .result ≡ little (part (c .before .before .before .before .args .bytes .now) (c .before .before .body-of .result) 1)
+head c = c .get8 .ensures ∙ ap little (place-get (c .before .before .before .before .args .bytes .now) (c .before .before .body-of .result) 1 (room (c .before .before)))
+
+header : (c : tie.After-get8) → c .get8 .result ≡ little (part (c .before .before .before .before .args .bytes .now) (bodyOf (c .before .before .before .before .args .m)) 1)
+header c = head c ∙ ap (λ (n : ℕ). little (part (c .before .before .before .before .args .bytes .now) n 1)) (c .before .before .body-of .ensures .0)
+
 returns : tie.Need-returns
-unfolding exchangeOf exchangeOrder
 returns c =
-    let e = c .before .before .before .field8 .ensures ∙ ap (λ (n : ℕ). little (part (c .before .before .before .before .before .before .args .bytes .now) n 1)) (c .before .before .before .before .body-of .ensures .0) in
-    simp (c .refused .ensures, ← e, so (c .before .before .bad-exchange .ensures) (c .before .if1 .taken))
+    let b = c .before .before in
+    let v = b .before .before .before .before .before .args in
+    c .refused .ensures ∙ sym (exchange-header (v .bytes .now) (v .m) _ (header (b .before)) (so (b .bad-exchange .ensures) (c .before .if1 .taken)))
 
 returns-2 : tie.Need-returns-2
-unfolding exchangeOf exchangeOrder exchanged
 returns-2 c =
-    let e = c .before .before .before .before .before .field8 .ensures ∙ ap (λ (n : ℕ). little (part (c .before .before .before .before .before .before .before .before .args .bytes .now) n 1)) (c .before .before .before .before .before .before .body-of .ensures .0) in
-    simp (c .refused2 .ensures, ← e, so (c .before .before .before .before .bad-exchange .ensures) (c .before .before .before .if1 .left), so (c .before .before .old-asks .ensures) (c .before .if2 .taken))
+    let o = c .before .before in
+    let b = o .before .before in
+    let v = b .before .before .before .before .before .args in
+    c .refused2 .ensures
+    ∙ sym (exchange-asks (v .bytes .now) (v .m) _ (header (b .before)) (so (b .bad-exchange .ensures) (o .before .if1 .left)) (so (o .old-asks .ensures) (c .before .if2 .taken)))
 
-with-exchange-requires : tie.Need-with-exchange-requires
-with-exchange-requires c κs =
-    let h = c .before .before .before .before .before .before .before .before .pre .1 in
-    let k = c .before .before .before .before .before .before .body-of .ensures .0 in
-    (c .before .before .before .before .before .field8 .ensures, omega (arith, ap {B = ℕ} (λ (a : Bool). only a 4) (not-true (bit (c .before .before .before .before .before .field8 .result) 1) (c .if3 .taken))))
+read-fields-requires : tie.Need-read-fields-requires
+read-fields-requires c κs =
+    let g = c .before .before .before .before in
+    let p = g .before .before .before .before .pre in
+    (head g, g .before .before .body-of .ensures .0, p .0, p .1)
 
 returns-3 : tie.Need-returns-3
 returns-3 c =
-    let a = c .before .before .before .before .before .before .before .before .before .args in
-    let e = c .before .before .before .before .before .before .field8 .ensures ∙ ap (λ (n : ℕ). little (part (c .before .before .before .before .before .before .before .before .before .args .bytes .now) n 1)) (c .before .before .before .before .before .before .before .body-of .ensures .0) in
-    let k = c .before .before .before .before .before .before .before .body-of .ensures .0 in
-    ap Taken (c .with-exchange .ensures ∙ ap (λ (i : ℕ). exchanged (a .m) (a .bytes .now) i) k)
-    ∙ sym (exchange-bare (a .bytes .now) (a .m) (c .before .before .before .before .before .before .field8 .result) _ e (c .before .before .before .before .before .before .before .before .before .pre .0) refl (so (c .before .before .before .before .before .bad-exchange .ensures) (c .before .before .before .before .if1 .left)) (so (c .before .before .before .old-asks .ensures) (c .before .before .if2 .left)) (not-true _ (c .before .if3 .taken)))
-
-returns-4 : tie.Need-returns-4
-returns-4 c =
-    let a = c .before .before .before .before .before .before .before .before .before .before .before .args in
-    let e = c .before .before .before .before .before .before .before .before .field8 .ensures ∙ ap (λ (n : ℕ). little (part (c .before .before .before .before .before .before .before .before .before .before .before .args .bytes .now) n 1)) (c .before .before .before .before .before .before .before .before .before .body-of .ensures .0) in
-    let k = c .before .before .before .before .before .before .before .before .before .body-of .ensures .0 in
-    let n = c .before .before .check-length .ensures .0 in
-    c .refused3 .ensures
-    ∙ sym (exchange-lacks (a .bytes .now) (a .m) (c .before .before .before .before .before .before .before .before .field8 .result) _ e (c .before .before .before .before .before .before .before .before .before .before .before .pre .0) (omega arith) (so (c .before .before .before .before .before .before .before .bad-exchange .ensures) (c .before .before .before .before .before .before .if1 .left)) (so (c .before .before .before .before .before .old-asks .ensures) (c .before .before .before .before .if2 .left)) (not-false _ (c .before .before .before .if3 .left)) (c .before .if4 .taken))
-
-with-exchange-requires-2 : tie.Need-with-exchange-requires-2
-with-exchange-requires-2 c κs =
-    let h = c .before .before .before .before .before .before .before .before .before .before .pre .1 in
-    let k = c .before .before .before .before .before .before .before .before .body-of .ensures .0 in
-    (c .before .before .before .before .before .before .before .field8 .ensures, omega (arith, ap {B = ℕ} (λ (a : Bool). only a 4) (not-false (bit (c .before .before .before .before .before .before .before .field8 .result) 1) (c .before .before .if3 .left))))
-
-returns-5 : tie.Need-returns-5
-returns-5 c =
-    let a = c .before .before .before .before .before .before .before .before .before .before .before .args in
-    let e = c .before .before .before .before .before .before .before .before .field8 .ensures ∙ ap (λ (n : ℕ). little (part (c .before .before .before .before .before .before .before .before .before .before .before .args .bytes .now) n 1)) (c .before .before .before .before .before .before .before .before .before .body-of .ensures .0) in
-    let k = c .before .before .before .before .before .before .before .before .before .body-of .ensures .0 in
-    let n = c .before .before .check-length .ensures .0 in
-    ap Taken (c .with-exchange2 .ensures ∙ ap (λ (i : ℕ). exchanged (a .m) (a .bytes .now) i) k)
-    ∙ sym (exchange-whole (a .bytes .now) (a .m) (c .before .before .before .before .before .before .before .before .field8 .result) _ e (c .before .before .before .before .before .before .before .before .before .before .before .pre .0) (omega arith) (so (c .before .before .before .before .before .before .before .bad-exchange .ensures) (c .before .before .before .before .before .before .if1 .left)) (so (c .before .before .before .before .before .old-asks .ensures) (c .before .before .before .before .if2 .left)) (not-false _ (c .before .before .before .if3 .left)) (c .before .if4 .left))
+    let o = c .before .before in
+    let b = o .before .before in
+    let v = b .before .before .before .before .before .args in
+    c .read-fields .ensures
+    ∙ sym (exchange-fields (v .bytes .now) (v .m) _ (header (b .before)) (so (b .bad-exchange .ensures) (o .before .if1 .left)) (so (o .old-asks .ensures) (c .before .if2 .left)))
 
 pub read-exchange-spec : {M : Type 1} → statement M
 read-exchange-spec =
     tie.close
     (tie.spec
     (λ c κs. search needs)
+    (λ c. search needs)
+    (λ c. search needs)
+    (λ c. search needs)
+    (λ c. search needs)
     (λ c κs. search needs)
     (λ c κs. search needs)
     (λ c κs. search needs)
@@ -78,13 +66,5 @@ read-exchange-spec =
     (λ c κs. search needs)
     (λ c κs. search needs)
     returns-2
-    with-exchange-requires
-    returns-3
-    (λ c. search needs)
-    (λ c. search needs)
-    (λ c κs. search needs)
-    (λ c. search needs)
-    (λ c κs. search needs)
-    returns-4
-    with-exchange-requires-2
-    returns-5)
+    read-fields-requires
+    returns-3)

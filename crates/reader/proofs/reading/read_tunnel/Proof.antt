@@ -1,24 +1,33 @@
 -- Each answer stands at the first condition that holds. Assumes nothing.
-use mathlib.Core.Path.{sym, _∙_}
+use mathlib.Core.Path.{sym, ap, _∙_}
+use mathlib.Core.Bool.{not}
 use borrow.Author.Tests.{eq-eqb, ne-eqb}
 use Rattle.message.proofs.Logic.{so}
-use Rattle.reader.specs.Steps.{tunnelOf}
-use Rattle.reader.specs.Reading.{tunnelOrder}
+use Rattle.message.specs.declared.answers.Reading.the-variants.{Taken}
+use Rattle.reader.proofs.Flags.{tunnel-head}
+use Rattle.reader.proofs.Steps.{tunnel-version, tunnel-packet, tunnel-whole}
 use borrow.Author.Needs.{needs}
 use Rattle.reader.proofs.reading.read_tunnel.Statement.{statement}
 use Rattle.reader.proofs.reading.read_tunnel.Tie as tie
 
 returns : tie.Need-returns
-unfolding tunnelOf tunnelOrder
-returns c = simp (c .refused .ensures, ← (c .before .before .before .body-of .ensures .0), ne-eqb _ _ (c .before .if1 .taken))
+returns c =
+    let v = c .before .before .before .before .before .args in
+    c .refused .ensures
+    ∙ sym (tunnel-version (v .bytes .now) (v .m) _ (c .before .before .before .body-of .ensures .0) (ap not (ne-eqb _ _ (c .before .if1 .taken))))
 
 returns-2 : tie.Need-returns-2
-unfolding tunnelOf tunnelOrder
-returns-2 c = simp (c .refused2 .ensures, ← (c .before .before .before .before .before .before .body-of .ensures .0), eq-eqb _ _ (c .before .before .before .before .if1 .left), so (c .before .before .bad-packet .ensures) (c .before .if2 .taken))
+returns-2 c =
+    let v = c .before .before .before .before .before .before .before .before .args in
+    c .refused2 .ensures
+    ∙ sym (tunnel-packet (v .bytes .now) (v .m) _ (c .before .before .before .before .before .before .body-of .ensures .0) (ap not (eq-eqb _ _ (c .before .before .before .before .if1 .left))) (so (c .before .before .bad-packet .ensures) (c .before .if2 .taken)))
 
 returns-3 : tie.Need-returns-3
-unfolding tunnelOf tunnelOrder
-returns-3 c = simp (← (c .before .before .before .before .before .body-of .ensures .0), eq-eqb _ _ (c .before .before .before .if1 .left), so (c .before .bad-packet .ensures) (c .if2 .left))
+returns-3 c =
+    let v = c .before .before .before .before .before .before .before .args in
+    let p = c .before .before .before .before .before .before .before .pre in
+    let b = c .before .before .before .before .before .body-of .ensures .0 in
+    sym (tunnel-whole (v .bytes .now) (v .m) _ b (ap not (eq-eqb _ _ (c .before .before .before .if1 .left))) (so (c .before .bad-packet .ensures) (c .if2 .left)) ∙ ap (Taken (v .m)) (tunnel-head (v .m) _ (p .0) (p .1) b))
 
 pub read-tunnel-spec : {M : Type 1} → statement M
 read-tunnel-spec =
@@ -33,4 +42,5 @@ read-tunnel-spec =
     (λ c κs. search needs)
     (λ c κs. search needs)
     returns-2
+    (λ c. search needs)
     returns-3)

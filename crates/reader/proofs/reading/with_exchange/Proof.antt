@@ -1,22 +1,54 @@
 -- Each field by its own contract, at its place. Assumes nothing.
-use native.Mathlib.Nat.{div-one}
-use Rattle.reader.specs.Steps.{exchanged}
+use Prim.Native.Nat.{_+_, _≤_}
+use mathlib.Core.Path.{_≡_, ap, _∙_}
+use native.Mathlib.Omega.{arith}
+use lib.ListN.{length}
+use Rattle.wire.specs.Bytes.{part, little}
+use Rattle.wire.proofs.Places.{place-get}
+use Rattle.reader.proofs.Steps.{exchanged-fields}
 use borrow.Author.Needs.{needs}
 use Rattle.reader.proofs.reading.with_exchange.Statement.{statement}
 use Rattle.reader.proofs.reading.with_exchange.Tie as tie
 
+-- the bytes of the fields that are always present are there
+room : (c : tie.Start) → c .args .at + 8 ≤ length (c .args .bytes .now)
+room c = omega (arith, c .pre .1)
+
+kind : (c : tie.After-get8) → c .get8 .result ≡ little (part (c .before .before .before .args .bytes .now) (c .before .before .before .args .at + 1) 1)
+kind c = c .get8 .ensures ∙ ap little (place-get (c .before .before .before .args .bytes .now) (c .before .before .before .args .at + 1) 1 (omega (arith, room (c .before .before .before))))
+
+exchange : (c : tie.After-get16) → c .get16 .result ≡ little (part (c .before .before .before .before .before .args .bytes .now) (c .before .before .before .before .before .args .at + 2) 2)
+exchange c = c .get16 .ensures ∙ ap little (place-get (c .before .before .before .before .before .args .bytes .now) (c .before .before .before .before .before .args .at + 2) 2 (omega (arith, room (c .before .before .before .before .before))))
+
+profile : (c : tie.After-get32) → c .get32 .result ≡ little (part (c .before .before .before .before .before .before .before .args .bytes .now) (c .before .before .before .before .before .before .before .args .at + 4) 4)
+profile c = c .get32 .ensures ∙ ap little (place-get (c .before .before .before .before .before .before .before .args .bytes .now) (c .before .before .before .before .before .before .before .args .at + 4) 4 (omega (arith, room (c .before .before .before .before .before .before .before))))
+
 returns : tie.Need-returns
-unfolding exchanged
-returns c = simp (← (c .before .before .before .before .before .pre .0), c .before .before .before .field8 .ensures, c .before .before .field16 .ensures, c .before .field32 .ensures, c .maybe32 .ensures, div-one)
+returns c =
+    let g = c .before .before .before .before .before in
+    let v = g .before .before .before .args in
+    exchanged-fields (v .m) (v .bytes .now) (v .at) (v .x) _ _ _ _ (g .before .before .before .pre .0) (kind g) (exchange (c .before .before .before)) (profile (c .before)) (c .maybe32 .ensures)
 
 pub with-exchange-spec : {M : Type 1} → statement M
 with-exchange-spec =
     tie.close
     (tie.spec
     (λ c. search needs)
-    (λ c κs. search needs)
+    (λ c. search needs)
+    (λ c. search needs)
+    (λ c. search needs)
+    (λ c. search needs)
+    (λ c. search needs)
     (λ c. search needs)
     (λ c κs. search needs)
+    (λ c. search needs)
+    (λ c. search needs)
+    (λ c. search needs)
+    (λ c. search needs)
+    (λ c κs. search needs)
+    (λ c. search needs)
+    (λ c. search needs)
+    (λ c. search needs)
     (λ c. search needs)
     (λ c κs. search needs)
     (λ c. search needs)

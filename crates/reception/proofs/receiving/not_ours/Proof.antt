@@ -1,6 +1,5 @@
 -- By the three cases. Assumes nothing.
 use borrow.Author.Tests.{eq-eqb, ne-eqb, not-true, not-false}
-use borrow.Author.Needs.{needs}
 use Rattle.reception.proofs.receiving.not_ours.Statement.{statement}
 use Rattle.reception.proofs.receiving.not_ours.Tie as tie
 

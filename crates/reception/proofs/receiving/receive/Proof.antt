@@ -17,7 +17,7 @@ returns-2 c =
     let e = so (c .before .before .before .before .before .before .before .before .read .ensures) (c .before .before .before .before .before .before .reading .given .1) in
     let own = so (c .before .before .before .before .before .before .before .before .before .before .is-nobody .ensures) (c .before .before .before .before .before .before .before .before .before .if1 .left) in
     let d = c .before .before .deliver .ensures in
-    receives _ _ _ _ _ _ _ _ (sym (taken _ _ e .0)) (d .0 ∙ is-read _ _ _ own _ e) (d .1 .0) (d .1 .1)
+    receives _ _ _ _ _ _ _ _ (sym (taken _ _ e .0)) (d .0 ∙ is-read _ _ _ own _ _ e) (d .1 .0) (d .1 .1)
 
 returns-3 : tie.Need-returns-3
 returns-3 c =

@@ -1,6 +1,6 @@
 -- The row found is put as zeros; where there is none nothing is put. Assumes nothing.
 use borrow.Author.Needs.{needs}
-use Rattle.reception.proofs.Places.{removes, removes-none}
+use Rattle.reception.proofs.Removes.{removes, removes-none}
 use Rattle.reception.proofs.removing.remove.Statement.{statement}
 use Rattle.reception.proofs.removing.remove.Tie as tie
 

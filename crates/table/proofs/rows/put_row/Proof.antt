@@ -1,15 +1,13 @@
 -- Three words are stored, and past the last row none. Assumes nothing.
 use mathlib.Core.Path.{sym}
 use borrow.Author.Needs.{needs}
-use borrow.Author.Tests.{le-ltb}
-use Rattle.table.specs.Table.{withRow, putAt}
-use Rattle.table.proofs.Words.{put-within}
+use Rattle.table.specs.Table.{withRow}
+use Rattle.table.proofs.Words.{put-within, put-past}
 use Rattle.table.proofs.rows.put_row.Statement.{statement}
 use Rattle.table.proofs.rows.put_row.Tie as tie
 
 returns : tie.Need-returns
-unfolding putAt
-returns c = simp (le-ltb _ _ (c .if1 .taken))
+returns c = sym (put-past _ _ _ (c .if1 .taken))
 
 returns-2 : tie.Need-returns-2
 unfolding withRow

@@ -1,6 +1,4 @@
 -- A slice that is too short stays as it was; else the stores are a run from its front. Assumes nothing.
-use native.Mathlib.Omega.{arith}
-use lib.ListN.{length-set}
 use Rattle.wire.specs.Bytes.{littleBytes}
 use Rattle.wire.proofs.Fronts.{put-short, sets-placed}
 use borrow.Author.Needs.{needs}

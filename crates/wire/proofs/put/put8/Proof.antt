@@ -4,7 +4,6 @@ use mathlib.Core.Path.{_≡_, ap, _∙_}
 use mathlib.Core.List.{[], _∷_}
 use lib.Seq.{sets}
 use native.Mathlib.Omega.{arith}
-use lib.ListN.{length-set}
 use Rattle.wire.specs.Bytes.{littleBytes}
 use Rattle.wire.proofs.Fronts.{put-short, sets-placed}
 use borrow.Author.Needs.{needs}

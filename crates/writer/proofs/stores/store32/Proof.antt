@@ -1,14 +1,22 @@
--- The part that is lent has the length of the number, and comes back with its bytes. Assumes nothing.
+-- A field that is present is put at its place; one that is absent has no bytes. Assumes nothing.
 use mathlib.Core.Path.{refl}
 use Rattle.wire.specs.Bytes.{littleBytes}
 use Rattle.wire.proofs.Digits.{length-little}
-use Rattle.wire.proofs.Places.{place-put}
+use Rattle.writer.proofs.Maybe.{room-there, put-there, put-absent}
 use borrow.Author.Needs.{needs}
 use Rattle.writer.proofs.stores.store32.Statement.{statement}
 use Rattle.writer.proofs.stores.store32.Tie as tie
 
+part-put32-end : tie.Need-part-put32-end
+part-put32-end c = room-there (c .before .before .args .out .now) (c .before .before .args .at) 4 (c .if1 .taken) (c .before .before .pre)
+
 returns : tie.Need-returns
-returns c = (refl, place-put (c .before .before .before .before .before .args .out .now) (littleBytes 4 (c .before .before .before .before .before .args .x)) _ (c .before .before .before .before .before .args .at) 4 (length-little 4 (c .before .before .before .before .before .args .x)) (c .before .before .before .before .before .pre) (c .before .before .put32 .ensures))
+returns c =
+    let s = c .before .before .before .before .before .before in
+    put-there littleBytes (s .args .out .now) (s .args .at) 4 (s .args .x) (length-little 4 (s .args .x)) (c .before .before .before .before .if1 .taken) (s .pre) (c .before .before .put32 .ensures)
+
+returns-2 : tie.Need-returns-2
+returns-2 c = put-absent littleBytes _ (c .before .before .args .at) 4 (c .before .before .args .x) (c .if1 .left) refl
 
 pub store32-spec : {M : Type 1} → statement M
 store32-spec =
@@ -17,8 +25,9 @@ store32-spec =
     (λ c. search needs)
     (λ c. search needs)
     (λ c. search needs)
-    (λ c. search needs)
+    part-put32-end
     (λ c κs. search needs)
     (λ c. search needs)
     (λ c. search needs)
-    returns)
+    returns
+    returns-2)

@@ -14,9 +14,9 @@ returns c =
     let m = a .m in
     let w1 = begun-little (a .out .now) 0 2 (headerOf m) (rw (c .before .before .before .before .before .before .before .before .before .before .before .before .before .before .before .before .before .before .before .before .header-of .ensures) at (c .before .before .before .before .before .before .before .before .before .before .before .before .before .before .before .before .before .before .before .store16 .ensures)) in
     let w2 = and-little 4 (m .id) w1 (c .before .before .before .before .before .before .before .before .before .before .before .before .before .before .before .store32 .ensures) in
-    let w3 = and-big (only (m .sourced) 8) (m .source) w2 (c .before .before .before .before .before .before .before .before .before .before .before .store-maybe-node .ensures) in
-    let w4 = and-big (only (m .destined) 8) (m .destination) w3 (c .before .before .before .before .before .before .before .store-maybe-node2 .ensures) in
-    let w5 = and-little (only (encrypted m) 2) (m .key) w4 (c .before .before .store-maybe16 .ensures) in
+    let w3 = and-big (only (m .sourced) 8) (m .source) w2 (c .before .before .before .before .before .before .before .before .before .before .before .store-node .ensures) in
+    let w4 = and-big (only (m .destined) 8) (m .destination) w3 (c .before .before .before .before .before .before .before .store-node2 .ensures) in
+    let w5 = and-little (only (encrypted m) 2) (m .key) w4 (c .before .before .store162 .ensures) in
     (omega arith, w5 .buffer)
 
 pub store-address-spec : {M : Type 1} → statement M

@@ -16,7 +16,7 @@ returns c =
     let w2 = and-little 1 (m .kind) w1 (c .before .before .before .before .before .before .before .before .before .before .before .before .before .before .store82 .ensures) in
     let w3 = and-little 2 (m .exchange) w2 (c .before .before .before .before .before .before .before .before .before .before .store16 .ensures) in
     let w4 = and-little 4 (m .profile) w3 (c .before .before .before .before .before .before .store32 .ensures) in
-    let w5 = and-little (only (m .acknowledges) 4) (m .acknowledged) w4 (c .before .before .store-maybe32 .ensures) in
+    let w5 = and-little (only (m .acknowledges) 4) (m .acknowledged) w4 (c .before .before .store322 .ensures) in
     (omega arith, w5 .buffer)
 
 pub store-exchange-spec : {M : Type 1} → statement M

@@ -1,0 +1,3 @@
+-- What the contracts of `admission` cite.
+pub mod Acknowledgement
+pub mod Admission

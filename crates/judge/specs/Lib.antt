@@ -1,0 +1,3 @@
+-- What the contracts of `judge` cite.
+pub mod Writing
+pub mod Steps

@@ -1,0 +1,4 @@
+// What writing would answer, before any buffer is touched.
+mod judging;
+
+pub use judging::would_write;

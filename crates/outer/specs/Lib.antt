@@ -1,0 +1,3 @@
+-- What the contracts of `outer` cite.
+pub mod Outer
+pub mod Steps

@@ -1,0 +1,39 @@
+-- No row passed is free, so the first that is free is the lowest; past the last there is none. Assumes nothing.
+use Prim.Native.Nat.{_-_}
+use native.Mathlib.Omega.{arith}
+use borrow.Author.Needs.{needs}
+use Rattle.table.specs.Table.{rows, rowOf, isFree, freeOf}
+use Rattle.table.proofs.Least.{Tried, tried-none, tried-all, tried-one, tried-till}
+use Rattle.search.proofs.find_free.Statement.{statement}
+use Rattle.search.proofs.find_free.Tie as tie
+
+abbrev Inv-loop : tie.InvT-loop
+Inv-loop table lowest₀ lowest = Tried rows (λ k. isFree (rowOf table k)) lowest
+
+abbrev μ-loop : tie.MeasureT-loop
+μ-loop table lowest₀ lowest = rows - lowest
+
+loop-again : tie.Need-loop-again Inv-loop μ-loop
+loop-again c = tried-one _ _ _ _ (c .before .before .before .loop .inv) (omega arith) (c .before .is-free .ensures) (c .if2 .left)
+
+returns : tie.Need-returns Inv-loop μ-loop
+unfolding freeOf
+returns c = tried-all _ _ _ (c .before .loop .inv) (omega arith)
+
+returns-2 : tie.Need-returns-2 Inv-loop μ-loop
+unfolding freeOf
+returns-2 c = tried-till _ _ _ _ (c .before .before .before .loop .inv) (omega arith) (c .before .is-free .ensures) (c .if2 .taken)
+
+pub find-free-spec : {M : Type 1} → statement M
+find-free-spec =
+    tie.close
+    (tie.spec
+    Inv-loop
+    μ-loop
+    (λ c. tried-none _ _)
+    (λ c κs. search needs)
+    (λ c. search needs)
+    (λ c. search needs)
+    loop-again
+    returns
+    returns-2)

@@ -1,0 +1,5 @@
+-- The laws that belong to no one function.
+pub mod Promises
+pub mod Fitted
+pub mod Flags
+pub mod Outcomes
