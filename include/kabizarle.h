@@ -138,7 +138,7 @@ uint32_t kabizarle_unframe(const uint8_t *stream, size_t length, uint64_t frame[
  * in place. Refuses with 1 and 19. */
 uint32_t kabizarle_frame(const uint8_t *message, size_t length, uint8_t *out, size_t room, uint64_t *written);
 
-/* Reads a message, gives its verdict, moves its row and writes the acknowledgement that it wants. Refuses with 1 to 13, 15 to 20 and 22.
+/* Reads a message, gives its verdict, moves its row and writes the acknowledgement that it wants. Refuses with 1 to 13 and 15 to 20; 22 never comes.
  *   own     the gateway's own node
  *   link    the node at the other end of the link, the sender of a message without a source; 0 if it is not known
  *   passed  what the radio module says of the check of an encrypted message; not looked at for a plain one

@@ -51,7 +51,7 @@ module _ (t : List ℕ) (node key id : ℕ) where
       let o = opens (subst (λ (k : ℕ). rows ≤ k) e l) in
       (g ∙ sym (o .0), ap (λ (x : Row). record { verdict = New; row = x }) r ∙ sym (o .1))
 
--- 20 is said exactly when the name has no row and all rows are in use
+-- the condition of 20 holds exactly when the name has no row and all rows are in use
 module _ (t : List ℕ) (node key : ℕ) where
   pub full-says : noRow t node key ≡ true → (k : ℕ) → k < rows → (named node key (rowOf t k) ≡ false) × (rowOf t k .used ≡ true)
   unfolding findOf freeOf

@@ -50,12 +50,12 @@ fn admit_known(
     match answer {
         Writing::Refused(refusal) => Received::Refused(refusal),
         Writing::Written(length) => {
-            let row = table::row_under(table, found, sender, m.key);
+            let row = table_rows::row_under(table, found, sender, m.key);
             let rolled = row.rolled(m.id);
             let verdict = rolled.verdict;
             match verdict {
                 Verdict::New => {
-                    table::put_ids(table, found, rolled.row.highest, rolled.row.marks);
+                    table_rows::put_ids(table, found, rolled.row.highest, rolled.row.marks);
                     Received::New(m, head, length)
                 }
                 Verdict::Duplicate => Received::Duplicate(m, head, length),
@@ -88,7 +88,7 @@ fn admit_first(
     match answer {
         Writing::Refused(refusal) => Received::Refused(refusal),
         Writing::Written(length) => {
-            table::put_row(table, place, Row::open(sender, m.key, m.id));
+            table_rows::put_row(table, place, Row::open(sender, m.key, m.id));
             Received::New(m, head, length)
         }
     }

@@ -56,7 +56,7 @@ pub(crate) fn put(command: &[u8], table: &mut [u64; WORDS]) {
     if (command.len() < 1 + RECORD) | (table::ROWS <= number) {
         return bad();
     }
-    table::put_row(table, number, record(body::rest(command, 1)));
+    table_rows::put_row(table, number, record(body::rest(command, 1)));
     print::word(b"put");
 }
 
@@ -137,6 +137,6 @@ fn listed(number: usize, row: Row) {
 pub(crate) fn rows(table: &[u64; WORDS]) {
     print::word(b"rows");
     for number in 0..table::ROWS {
-        listed(number, table::row_at(table, number));
+        listed(number, table_rows::row_at(table, number));
     }
 }

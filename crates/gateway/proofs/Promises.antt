@@ -1,7 +1,7 @@
 -- What the boundary of `reception` promises of the places: a message with a verdict was read, so they say its parts. Assumes nothing.
 
 -- Only one outcome fits each exported function.
-pub use Rattle.gateway.proofs.Outcomes.{one-receive, one-remove, one-roll, one-row}
+pub use Rattle.gateway.proofs.Outcomes.{one-receive, one-remove}
 use Prim.Native.Nat.{ℕ}
 use mathlib.Core.Path.{_≡_}
 use mathlib.Core.List.{List}

@@ -1,4 +1,3 @@
 -- What the contracts of `gateway` cite.
 pub mod Receiving
 pub mod Removing
-pub mod Rows

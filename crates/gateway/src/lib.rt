@@ -1,11 +1,8 @@
-// The boundary of `reception` to callers in other languages: receiving, removing and rows over numbers
-// and lent arrays. Each function gives the number of the refusal, 0 for none, and on a refusal leaves
+// The boundary of `reception` to callers in other languages: receiving and removing over numbers and
+// lent arrays. Each function gives the number of the refusal, 0 for none, and on a refusal leaves
 // all that was lent as it was.
 mod receiving;
 mod removing;
-mod rows;
 
 pub use receiving::kabizarle_receive;
 pub use removing::kabizarle_remove;
-pub use rows::kabizarle_roll;
-pub use rows::kabizarle_row;

@@ -17,20 +17,20 @@ use message::layout;
 fn value_refusal(m: Message) -> u8
     ensures { λ r. ⌜ r ≡ first (valueOrder m) ⌝ }
 {
-    if message::bad_version(m.version) {
+    if conditions::bad_version(m.version) {
         return Refusal::VERSION;
     }
-    if message::old_tunnel(m.version, m.tunnelled) {
+    if conditions::old_tunnel(m.version, m.tunnelled) {
         return Refusal::OLD_TUNNEL;
     }
-    if message::bad_encrypt(m.encrypt) {
+    if conditions::bad_encrypt(m.encrypt) {
         return Refusal::ENCRYPT;
     }
-    let by_address = message::address_refusal(m);
+    let by_address = conditions::address_refusal(m);
     if by_address != 0 {
         return by_address;
     }
-    if message::old_asks(m.version, m.acknowledges, m.wants) {
+    if conditions::old_asks(m.version, m.acknowledges, m.wants) {
         return Refusal::OLD_ASKS;
     }
     0
@@ -47,7 +47,7 @@ fn empty_packet(m: Message, payload: &[u8]) -> bool
 fn wrong_packet(m: Message, payload: &[u8]) -> bool
     ensures { λ r. ⌜ r ≡ wrongPacket m (now (payload .entry)) ⌝ }
 {
-    m.tunnelled & message::bad_packet(wire::get8(payload))
+    m.tunnelled & conditions::bad_packet(wire::get8(payload))
 }
 
 // An absent address field is not zero.

@@ -85,7 +85,7 @@ strayExchange m =
     || ((m .tunnelled)
     && ((m .initiator) || (m .acknowledges) || (m .wants) || not (eqb (m .kind) 0) || not (eqb (m .exchange) 0) || not (eqb (m .profile) 0)))
 
--- 14: such a field, or check bytes that are not 20, or 0 of a plain message
+-- 14: such a field, or check bytes that are not 20 (encrypted) or 0 (plain)
 unfoldable pub stray : Message → List ℕ → Bool
 stray m check = strayAddress m || strayExchange m || not (eqb (length check) (checkLength m))
 
@@ -93,7 +93,7 @@ stray m check = strayAddress m || strayExchange m || not (eqb (length check) (ch
 unfoldable pub total : Message → List ℕ → ℕ
 total m payload = headLength m + length payload + checkLength m
 
--- 7, 8, 9: what the address fields decide, in the order that reading and writing share
+-- 7, 8, 9: what the address fields decide, in the order that reading and writing share; their own orders spell it out
 unfoldable pub addressOrder : Message → List Condition
 addressOrder m =
     7 when badKey (m .encrypt) (m .key)

@@ -48,7 +48,8 @@ addressOf bytes h =
       acknowledged = 0;
     }
 
--- a value with the exchange fields besides, where it is general: of the exchange header x, and of what follows its place `at`
+-- a value with the exchange fields besides, where it is general: of the exchange header x, which is 0 where it is not, and of what follows its
+-- place `at`
 unfoldable pub exchangedBy : Bool → Message → List ℕ → ℕ → ℕ → Message
 exchangedBy general m bytes at x =
     record {

@@ -31,16 +31,16 @@ fn header_refusal(h: u16) -> u8
     ensures { λ r. ⌜ r ≡ first (headerOrder h) ⌝ }
 {
     let version = (h / layout::VERSION % 16) as u8;
-    if message::bad_version(version) {
+    if conditions::bad_version(version) {
         return Refusal::VERSION;
     }
     if is_reserved(h) {
         return Refusal::RESERVED;
     }
-    if message::old_tunnel(version, h / layout::T % 2 == 1) {
+    if conditions::old_tunnel(version, h / layout::T % 2 == 1) {
         return Refusal::OLD_TUNNEL;
     }
-    if message::bad_encrypt((h / layout::ENCRYPT % 16) as u8) {
+    if conditions::bad_encrypt((h / layout::ENCRYPT % 16) as u8) {
         return Refusal::ENCRYPT;
     }
     0
@@ -109,7 +109,7 @@ pub fn begin(bytes: &[u8]) -> Begun
         return Begun::Refused(Refusal::TOO_SHORT);
     }
     let m = address(bytes, h);
-    let by_address = message::address_refusal(m);
+    let by_address = conditions::address_refusal(m);
     if by_address != 0 {
         return Begun::Refused(by_address);
     }

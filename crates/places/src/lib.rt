@@ -157,10 +157,10 @@ pub const WANTS: u64 = 4;
 // Verdict: none was asked for.
 pub const NONE: u64 = 0;
 
-// Verdict: heard for the first time.
+// Verdict: new, as far as its row can tell.
 pub const NEW: u64 = 1;
 
-// Verdict: heard once more.
+// Verdict: heard before, or too far behind to tell.
 pub const DUPLICATE: u64 = 2;
 
 // The answer of a call that refuses nothing.

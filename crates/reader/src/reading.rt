@@ -103,7 +103,7 @@ fn read_exchange(bytes: &[u8], m: Message) -> Reading
     if bad_exchange(x) {
         return refused(Refusal::EXCHANGE);
     }
-    if message::old_asks(m.version, x / layout::A % 2 == 1, x / layout::R % 2 == 1) {
+    if conditions::old_asks(m.version, x / layout::A % 2 == 1, x / layout::R % 2 == 1) {
         return refused(Refusal::OLD_ASKS);
     }
     read_fields(m, bytes, at, x)
@@ -118,7 +118,7 @@ fn read_tunnel(bytes: &[u8], m: Message) -> Reading
     if bytes[at] != layout::TUNNEL_VERSION {
         return refused(Refusal::TUNNEL);
     }
-    if message::bad_packet(bytes[at + layout::PACKET_AT]) {
+    if conditions::bad_packet(bytes[at + layout::PACKET_AT]) {
         return refused(Refusal::PACKET);
     }
     Reading::Taken(

@@ -1,7 +1,7 @@
 -- What reception promises, each as a theorem of its own. The laws behind them are in the other files of this folder, and what a history of
 -- calls comes to is in the crate `history`. Assumes nothing.
 
--- 20 is said exactly when the name has no row and all rows are in use.
+-- The condition of 20 holds exactly when the name has no row and all rows are in use.
 pub use Rattle.admission.proofs.Places.{full-says, full-when}
 -- Only one outcome fits `receive`, and one `remove`.
 pub use Rattle.reception.proofs.Outcomes.{one-receipt, one-removal}

@@ -57,7 +57,7 @@ fn delivery_refusal(own: u64, link: u64, sender: u64, passed: bool, m: Message) 
     if not_ours(own, m) {
         return Refusal::NOT_OURS;
     }
-    if message::is_nobody(sender) {
+    if conditions::is_nobody(sender) {
         return Refusal::SENDER;
     }
     if unchecked(passed, m) {
@@ -110,7 +110,7 @@ pub fn receive(
     ensures table { λ r. ⌜ now (table .exit) ≡ receiveTable (beside own link passed id (length (now (out .entry)))) (now (bytes .entry)) (now (table .entry)) ⌝ }
     ensures buffer { λ r. ⌜ now (out .exit) ≡ receiveBuffer (beside own link passed id (length (now (out .entry)))) (now (bytes .entry)) (now (table .entry)) (now (out .entry)) ⌝ }
 {
-    if message::is_nobody(own) {
+    if conditions::is_nobody(own) {
         return refused(Refusal::OWN_NODE);
     }
     let reading = reader::read(bytes);

@@ -18,6 +18,6 @@ pub fn remove(table: &mut [u64; WORDS], node: u64, key: u16) -> Removed
             number: Refusal::NO_ROW,
         });
     }
-    table::put_row(table, found, Row::FREE);
+    table_rows::put_row(table, found, Row::FREE);
     Removed::Done
 }

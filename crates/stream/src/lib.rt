@@ -70,7 +70,7 @@ pub fn frame(message: &[u8], out: &mut [u8]) -> Writing
         });
     }
     let start = layout::FRAME;
-    wire::put16(&mut out[0..start], message.len() as u16);
+    put::put16(&mut out[0..start], message.len() as u16);
     bytes::copy(message, &mut out[start..total]);
     Writing::Written(total)
 }

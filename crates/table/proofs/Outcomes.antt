@@ -16,39 +16,17 @@ use mathlib.Core.Bool.{Bool}
 use mathlib.Core.List.{List}
 use Rattle.window.specs.declared.Row.{Row}
 use Rattle.wire.proofs.One.{both}
-use Rattle.table.proofs.rows.row_at as reading
-use Rattle.table.proofs.rows.put_row as putting
 use Rattle.table.proofs.rows.put_words as storing
-use Rattle.table.proofs.rows.put_ids as changing
 use Rattle.table.proofs.rows.row_from as words
 use Rattle.table.proofs.rows.state_of as state
 use Rattle.table.proofs.rows.use_bit as bit
-use Rattle.table.proofs.rows.row_under as under
 
 module _ {M : Type 1} (𝓤 : URA M) (H : Heap 𝓤) (A : Atoms 𝓤) (at-mem : Memory → SProp 𝓤) (run : Routine → Fun 𝓤) where
-  -- `row_at` gives one row
-  pub one-row-at : (κs : Lfts 1) (table : RefT (List ℕ)) (number : ℕ) (r s : Row) (x y : AtExit reading.ended κs)
-      → let allows : Row → AtExit reading.ended κs → SProp 𝓤 = λ v e. reading.clauses 𝓤 H A at-mem run κs (table, (number, tt)) .ensures tt v e in
-      ent 𝓤 (conj 𝓤 (allows r x) (allows s y)) (fact 𝓤 (r ≡ s))
-  one-row-at κs table number r s x y = both 𝓤 _ _ _ (λ e f. e ∙ sym f)
-
-  -- `put_row` leaves one table
-  pub one-put-row : (κs : Lfts 1) (table : RefT (List ℕ)) (number : ℕ) (row : Row) (r s : Unit {0}) (x y : AtExit putting.ended κs)
-      → let allows : Unit {0} → AtExit putting.ended κs → SProp 𝓤 = λ v e. putting.clauses 𝓤 H A at-mem run κs (table, (number, (row, tt))) .ensures tt v e in
-      ent 𝓤 (conj 𝓤 (allows r x) (allows s y)) (fact 𝓤 (now (x .0) ≡ now (y .0)))
-  one-put-row κs table number row r s x y = both 𝓤 _ _ _ (λ e f. e ∙ sym f)
-
   -- `put_words` leaves three words
   pub one-put-words : (κs : Lfts 1) (three : RefT (List ℕ)) (row : Row) (r s : Unit {0}) (x y : AtExit storing.ended κs)
       → let allows : Unit {0} → AtExit storing.ended κs → SProp 𝓤 = λ v e. storing.clauses 𝓤 H A at-mem run κs (three, (row, tt)) .ensures tt v e in
       ent 𝓤 (conj 𝓤 (allows r x) (allows s y)) (fact 𝓤 (now (x .0) ≡ now (y .0)))
   one-put-words κs three row r s x y = both 𝓤 _ _ _ (λ e f. e ∙ sym f)
-
-  -- `put_ids` leaves one table
-  pub one-put-ids : (κs : Lfts 1) (table : RefT (List ℕ)) (number highest marks : ℕ) (r s : Unit {0}) (x y : AtExit changing.ended κs)
-      → let allows : Unit {0} → AtExit changing.ended κs → SProp 𝓤 = λ v e. changing.clauses 𝓤 H A at-mem run κs (table, (number, (highest, (marks, tt)))) .ensures tt v e in
-      ent 𝓤 (conj 𝓤 (allows r x) (allows s y)) (fact 𝓤 (now (x .0) ≡ now (y .0)))
-  one-put-ids κs table number highest marks r s x y = both 𝓤 _ _ _ (λ e f. e ∙ sym f)
 
   -- `row_from` gives one row
   pub one-row-from : (κs : Lfts 0) (node second third : ℕ) (r s : Row) (x y : AtExit words.ended κs)
@@ -67,9 +45,3 @@ module _ {M : Type 1} (𝓤 : URA M) (H : Heap 𝓤) (A : Atoms 𝓤) (at-mem : 
       → let allows : ℕ → AtExit bit.ended κs → SProp 𝓤 = λ v e. bit.clauses 𝓤 H A at-mem run κs (used, tt) .ensures tt v e in
       ent 𝓤 (conj 𝓤 (allows r x) (allows s y)) (fact 𝓤 (r ≡ s))
   one-use-bit κs used r s x y = both 𝓤 _ _ _ (λ e f. e .0 ∙ sym (f .0))
-
-  -- `row_under` gives one row
-  pub one-row-under : (κs : Lfts 1) (table : RefT (List ℕ)) (number node key : ℕ) (r s : Row) (x y : AtExit under.ended κs)
-      → let allows : Row → AtExit under.ended κs → SProp 𝓤 = λ v e. under.clauses 𝓤 H A at-mem run κs (table, (number, (node, (key, tt)))) .ensures tt v e in
-      ent 𝓤 (conj 𝓤 (allows r x) (allows s y)) (fact 𝓤 (r ≡ s))
-  one-row-under κs table number node key r s x y = both 𝓤 _ _ _ (λ e f. e ∙ sym f)

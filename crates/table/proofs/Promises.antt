@@ -5,5 +5,4 @@ pub use Rattle.table.proofs.Words.{same-row, other-row, other-word, len
 -- Putting ids alone into the row of a name, as rolling it gives them, comes to the row put whole.
 pub use Rattle.table.proofs.Ids.{rolled-ids-put}
 -- Only one outcome fits each public function.
-pub use Rattle.table.proofs.Outcomes.{one-row-at, one-put-row, one-put-ids, one-put-words, one-row-from, one-state-of, one-use-bit}
-pub use Rattle.table.proofs.Outcomes.{one-row-under}
+pub use Rattle.table.proofs.Outcomes.{one-put-words, one-row-from, one-state-of, one-use-bit}

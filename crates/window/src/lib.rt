@@ -5,7 +5,7 @@ ghost use Prim.Native.Nat.{_*_, _-_, _%_, _^_, _<_};
 ghost use lib.Bits.{bitOr};
 ghost use Rattle.window.specs.Rows.{again, behindOf, marksHeld, opened, rolledOf, taken};
 
-// What an arriving id is: heard for the first time, or once more.
+// What an arriving id is: new, as far as its row can tell; or heard before, or too far behind to tell.
 pub enum Verdict {
     New,
     Duplicate,

@@ -19,11 +19,6 @@ use Rattle.wire.proofs.get.get16 as get16
 use Rattle.wire.proofs.get.get32 as get32
 use Rattle.wire.proofs.get.get64 as get64
 use Rattle.wire.proofs.get.get_node as getNode
-use Rattle.wire.proofs.put.put8 as put8
-use Rattle.wire.proofs.put.put16 as put16
-use Rattle.wire.proofs.put.put32 as put32
-use Rattle.wire.proofs.put.put64 as put64
-use Rattle.wire.proofs.put.put_node as putNode
 
 module _ {M : Type 1} (𝓤 : URA M) (H : Heap 𝓤) (A : Atoms 𝓤) (at-mem : Memory → SProp 𝓤) (run : Routine → Fun 𝓤) where
   pub one-get8 : (κs : Lfts 1) (bytes : RefT (List ℕ)) (r s : ℕ) (x y : AtExit get8.ended κs)
@@ -50,28 +45,3 @@ module _ {M : Type 1} (𝓤 : URA M) (H : Heap 𝓤) (A : Atoms 𝓤) (at-mem : 
       → let allows : ℕ → AtExit getNode.ended κs → SProp 𝓤 = λ v e. getNode.clauses 𝓤 H A at-mem run κs (bytes, tt) .ensures tt v e in
       ent 𝓤 (conj 𝓤 (allows r x) (allows s y)) (fact 𝓤 (r ≡ s))
   one-get-node κs bytes r s x y = both 𝓤 _ _ _ (λ e f. e ∙ sym f)
-
-  pub one-put8 : (κs : Lfts 1) (out : RefT (List ℕ)) (k : ℕ) (r s : Unit {0}) (x y : AtExit put8.ended κs)
-      → let allows : Unit {0} → AtExit put8.ended κs → SProp 𝓤 = λ v e. put8.clauses 𝓤 H A at-mem run κs (out, (k, tt)) .ensures tt v e in
-      ent 𝓤 (conj 𝓤 (allows r x) (allows s y)) (fact 𝓤 (now (x .0) ≡ now (y .0)))
-  one-put8 κs out k r s x y = both 𝓤 _ _ _ (λ e f. e ∙ sym f)
-
-  pub one-put16 : (κs : Lfts 1) (out : RefT (List ℕ)) (k : ℕ) (r s : Unit {0}) (x y : AtExit put16.ended κs)
-      → let allows : Unit {0} → AtExit put16.ended κs → SProp 𝓤 = λ v e. put16.clauses 𝓤 H A at-mem run κs (out, (k, tt)) .ensures tt v e in
-      ent 𝓤 (conj 𝓤 (allows r x) (allows s y)) (fact 𝓤 (now (x .0) ≡ now (y .0)))
-  one-put16 κs out k r s x y = both 𝓤 _ _ _ (λ e f. e ∙ sym f)
-
-  pub one-put32 : (κs : Lfts 1) (out : RefT (List ℕ)) (k : ℕ) (r s : Unit {0}) (x y : AtExit put32.ended κs)
-      → let allows : Unit {0} → AtExit put32.ended κs → SProp 𝓤 = λ v e. put32.clauses 𝓤 H A at-mem run κs (out, (k, tt)) .ensures tt v e in
-      ent 𝓤 (conj 𝓤 (allows r x) (allows s y)) (fact 𝓤 (now (x .0) ≡ now (y .0)))
-  one-put32 κs out k r s x y = both 𝓤 _ _ _ (λ e f. e ∙ sym f)
-
-  pub one-put64 : (κs : Lfts 1) (out : RefT (List ℕ)) (k : ℕ) (r s : Unit {0}) (x y : AtExit put64.ended κs)
-      → let allows : Unit {0} → AtExit put64.ended κs → SProp 𝓤 = λ v e. put64.clauses 𝓤 H A at-mem run κs (out, (k, tt)) .ensures tt v e in
-      ent 𝓤 (conj 𝓤 (allows r x) (allows s y)) (fact 𝓤 (now (x .0) ≡ now (y .0)))
-  one-put64 κs out k r s x y = both 𝓤 _ _ _ (λ e f. e ∙ sym f)
-
-  pub one-put-node : (κs : Lfts 1) (out : RefT (List ℕ)) (k : ℕ) (r s : Unit {0}) (x y : AtExit putNode.ended κs)
-      → let allows : Unit {0} → AtExit putNode.ended κs → SProp 𝓤 = λ v e. putNode.clauses 𝓤 H A at-mem run κs (out, (k, tt)) .ensures tt v e in
-      ent 𝓤 (conj 𝓤 (allows r x) (allows s y)) (fact 𝓤 (now (x .0) ≡ now (y .0)))
-  one-put-node κs out k r s x y = both 𝓤 _ _ _ (λ e f. e ∙ sym f)

@@ -54,12 +54,12 @@ fn acknowledgement(own: u64, sender: u64, id: u32, m: Message) -> Message
 fn judged(value: Message, room: usize) -> Writing
     ensures { λ r. ⌜ r ≡ writing (first (acknowledgingOrder value room)) (total value []) ⌝ }
 {
-    if message::bad_encrypt(value.encrypt) {
+    if conditions::bad_encrypt(value.encrypt) {
         return Writing::Refused(Refusal {
             number: Refusal::ENCRYPT,
         });
     }
-    let by_address = message::address_refusal(value);
+    let by_address = conditions::address_refusal(value);
     if by_address != 0 {
         return Writing::Refused(Refusal { number: by_address });
     }

@@ -23,7 +23,7 @@ pub(crate) fn store16(present: bool, out: &mut [u8], at: usize, x: u16) -> usize
     ensures { λ r. ⌜ (r ≡ at + only present 2) × (now (out .exit) ≡ sets (now (out .entry)) at (littleBytes (only present 2) x)) ⌝ }
 {
     if present {
-        wire::put16(&mut out[at..at + 2], x);
+        put::put16(&mut out[at..at + 2], x);
         return at + 2;
     }
     at
@@ -34,7 +34,7 @@ pub(crate) fn store32(present: bool, out: &mut [u8], at: usize, x: u32) -> usize
     ensures { λ r. ⌜ (r ≡ at + only present 4) × (now (out .exit) ≡ sets (now (out .entry)) at (littleBytes (only present 4) x)) ⌝ }
 {
     if present {
-        wire::put32(&mut out[at..at + 4], x);
+        put::put32(&mut out[at..at + 4], x);
         return at + 4;
     }
     at
@@ -46,7 +46,7 @@ pub(crate) fn store_node(present: bool, out: &mut [u8], at: usize, x: u64) -> us
     ensures { λ r. ⌜ (r ≡ at + only present 8) × (now (out .exit) ≡ sets (now (out .entry)) at (bigBytes (only present 8) x)) ⌝ }
 {
     if present {
-        wire::put_node(&mut out[at..at + 8], x);
+        put::put_node(&mut out[at..at + 8], x);
         return at + 8;
     }
     at

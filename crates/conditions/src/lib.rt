@@ -1,0 +1,88 @@
+// The conditions of the refusals that reading and writing share, one function each.
+ghost use mathlib.Core.Path.{_≡_};
+ghost use Rattle.message.specs.Order.{first};
+ghost use Rattle.message.specs.Refusals.{badVersion, oldTunnel, badEncrypt, badKey, nobody, badSource, badDestination, oldAsks, badPacket, addressOrder};
+use message::Message;
+use message::Refusal;
+use message::layout;
+
+// 3
+pub fn bad_version(version: u8) -> bool
+    ensures { λ r. ⌜ r ≡ badVersion version ⌝ }
+{
+    !((version == layout::VERSION_1) | (version == layout::VERSION_2))
+}
+
+// 5
+pub fn old_tunnel(version: u8, tunnelled: bool) -> bool
+    ensures { λ r. ⌜ r ≡ oldTunnel version tunnelled ⌝ }
+{
+    tunnelled & (version == layout::VERSION_1)
+}
+
+// 6
+pub fn bad_encrypt(encrypt: u8) -> bool
+    ensures { λ r. ⌜ r ≡ badEncrypt encrypt ⌝ }
+{
+    !((encrypt == layout::PLAIN) | (encrypt == layout::ENCRYPTED))
+}
+
+// 7
+fn bad_key(encrypt: u8, key: u16) -> bool
+    ensures { λ r. ⌜ r ≡ badKey encrypt key ⌝ }
+{
+    let kind = key / layout::KEY_TYPE % 16;
+    (encrypt == layout::ENCRYPTED) & !((kind == layout::FABRIC) | (kind == layout::SESSION))
+}
+
+// All zero or all ones: never the node of a sender.
+pub fn is_nobody(node: u64) -> bool
+    ensures { λ r. ⌜ r ≡ nobody node ⌝ }
+{
+    (node == layout::NODE_NONE) | (node == layout::NODE_ANY)
+}
+
+// 8
+fn bad_source(sourced: bool, source: u64) -> bool
+    ensures { λ r. ⌜ r ≡ badSource sourced source ⌝ }
+{
+    sourced & is_nobody(source)
+}
+
+// 9
+fn bad_destination(destined: bool, destination: u64) -> bool
+    ensures { λ r. ⌜ r ≡ badDestination destined destination ⌝ }
+{
+    destined & (destination == layout::NODE_NONE)
+}
+
+// The number of the refusal that the address fields decide, 7 to 9, or 0.
+pub fn address_refusal(m: Message) -> u8
+    ensures { λ r. ⌜ r ≡ first (addressOrder m) ⌝ }
+{
+    if bad_key(m.encrypt, m.key) {
+        return Refusal::KEY;
+    }
+    if bad_source(m.sourced, m.source) {
+        return Refusal::SOURCE;
+    }
+    if bad_destination(m.destined, m.destination) {
+        return Refusal::DESTINATION;
+    }
+    0
+}
+
+// 11
+pub fn old_asks(version: u8, acknowledges: bool, wants: bool) -> bool
+    ensures { λ r. ⌜ r ≡ oldAsks version acknowledges wants ⌝ }
+{
+    (version == layout::VERSION_1) & (acknowledges | wants)
+}
+
+// 13
+pub fn bad_packet(first: u8) -> bool
+    ensures { λ r. ⌜ r ≡ badPacket first ⌝ }
+{
+    let family = first / layout::FAMILY % 16;
+    !((family == layout::IPV4) | (family == layout::IPV6))
+}

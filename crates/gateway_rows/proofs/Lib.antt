@@ -1,0 +1,4 @@
+-- The laws that belong to no one function.
+pub mod Answered
+pub mod Outcomes
+pub mod Promises

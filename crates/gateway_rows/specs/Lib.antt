@@ -1,0 +1,2 @@
+-- What the contracts of `gateway_rows` cite.
+pub mod Rows
