@@ -19,3 +19,19 @@ static inline struct gw_answer gw_receive(void *table, uint64_t own, uint64_t li
 		return (struct gw_answer){ refusal, false, 0 };
 	return (struct gw_answer){ 0, fields[KABIZARLE_VERDICT] == KABIZARLE_DUPLICATE, (uint32_t)fields[KABIZARLE_REPLY_LENGTH] };
 }
+
+static inline long gw_save(const void *table, uint8_t *out, size_t room)
+{
+	uint64_t length;
+	uint32_t refusal = kabizarle_save(table, out, room, &length);
+
+	return refusal ? -(long)refusal : (long)length;
+}
+
+static inline long gw_restore(void *table, const uint8_t *saved, size_t length)
+{
+	uint64_t rows;
+	uint32_t refusal = kabizarle_restore(table, saved, length, &rows);
+
+	return refusal ? -(long)refusal : (long)rows;
+}

@@ -12,3 +12,15 @@ static inline struct gw_answer gw_receive(void *table, uint64_t own, uint64_t li
 	__asm__ volatile("" :: "r"(table), "r"(message), "r"(out) : "memory");
 	return (struct gw_answer){ 0, false, 0 };
 }
+
+static inline long gw_save(const void *table, uint8_t *out, size_t room)
+{
+	__asm__ volatile("" :: "r"(table), "r"(out), "r"(room) : "memory");
+	return 0;
+}
+
+static inline long gw_restore(void *table, const uint8_t *saved, size_t length)
+{
+	__asm__ volatile("" :: "r"(table), "r"(saved), "r"(length) : "memory");
+	return 0;
+}

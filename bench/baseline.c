@@ -7,6 +7,7 @@ enum {
 	EXCHANGE_RESERVED = 0xe8,
 	ACK_HEADER = 2 << 12 | WV_SOURCE | WV_DESTINATION,
 	ACK_TYPE = 2,
+	RECORD_MARK = 0x5752,
 };
 
 static const uint64_t ANY_NODE = UINT64_MAX;
@@ -282,5 +283,73 @@ int wv_remove(struct wv_table *table, uint64_t node, uint16_t key_id)
 	if (!row)
 		return WV_NO_SUCH_ROW;
 	*row = (struct wv_row){ 0 };
+	return 0;
+}
+
+int wv_save(const struct wv_table *table, uint8_t *out, size_t room, size_t *len)
+{
+	size_t count = 0;
+
+	for (const struct wv_row *r = table->rows; r < table->rows + WV_ROWS; ++r)
+		count += r->used;
+	if (room < count * WV_RECORD_LEN)
+		return WV_NO_ROOM;
+	for (const struct wv_row *r = table->rows; r < table->rows + WV_ROWS; ++r) {
+		if (!r->used)
+			continue;
+		out = put16(out, RECORD_MARK);
+		out = put_node(out, r->node);
+		out = put16(out, r->key_id);
+		out = put32(out, r->highest);
+		out = put16(out, r->marks & ALL_MARKS);
+	}
+	*len = count * WV_RECORD_LEN;
+	return 0;
+}
+
+/* The row of a record. */
+static always_inline struct wv_row row_of(const uint8_t *p)
+{
+	return (struct wv_row){ .node = get_node(p + 2), .key_id = get16(p + 10), .highest = get32(p + 12), .marks = get16(p + 16), .used = true };
+}
+
+static always_inline bool bad_row(struct wv_row r)
+{
+	return reserved_node(r.node) || (r.key_id && r.key_id >> 12 != 1 && r.key_id >> 12 != 2) || r.marks > ALL_MARKS;
+}
+
+/* Whether the names of two records are the same: the ten bytes of node and key id. */
+static always_inline bool same_name(const uint8_t *p, const uint8_t *q)
+{
+	uint64_t a, b;
+
+	__builtin_memcpy(&a, p + 2, 8);
+	__builtin_memcpy(&b, q + 2, 8);
+	return a == b && get16(p + 10) == get16(q + 10);
+}
+
+int wv_restore(struct wv_table *table, const uint8_t *saved, size_t len, size_t *rows)
+{
+	const uint8_t *end = saved + len, *p, *q;
+
+	if (len > WV_ROWS * WV_RECORD_LEN || len % WV_RECORD_LEN)
+		return WV_SAVED_LENGTH;
+	for (p = saved; p < end; p += WV_RECORD_LEN)
+		if (get16(p) != RECORD_MARK)
+			return WV_SAVED_MARK;
+	for (p = saved; p < end; p += WV_RECORD_LEN)
+		if (bad_row(row_of(p)))
+			return WV_SAVED_ROW;
+	for (p = saved; p < end; p += WV_RECORD_LEN)
+		for (q = saved; q < p; q += WV_RECORD_LEN)
+			if (same_name(p, q))
+				return WV_SAVED_TWICE;
+
+	struct wv_row *row = table->rows;
+
+	for (p = saved; p < end; p += WV_RECORD_LEN)
+		*row++ = row_of(p);
+	__builtin_memset(row, 0, (size_t)((char *)(table->rows + WV_ROWS) - (char *)row));
+	*rows = len / WV_RECORD_LEN;
 	return 0;
 }

@@ -1,5 +1,5 @@
 /* The receive path by hand, in plain C, to measure the library against: it reads a message, tells new from duplicate and writes
- * the acknowledgement. Nothing of it is proved.
+ * the acknowledgement; and the table saved and restored. Nothing of it is proved.
  *
  * No libc, no heap, no state but the table that the caller lends. Integers on the wire are low byte first; a node id is
  * eight bytes, EUI[0] first, and here one number: 02 00 .. 01 is 0x0200000000000001.
@@ -19,6 +19,7 @@ enum {
 	WV_MARKS = 15,
 	WV_ACK_LEN = 34,
 	WV_ACK_LEN_ENCRYPTED = 56,
+	WV_RECORD_LEN = 18,
 };
 
 enum wv_refusal {
@@ -42,6 +43,10 @@ enum wv_refusal {
 	WV_NO_ROOM,
 	WV_TABLE_FULL,
 	WV_NO_SUCH_ROW,
+	WV_SAVED_MARK = 23,
+	WV_SAVED_LENGTH,
+	WV_SAVED_ROW,
+	WV_SAVED_TWICE,
 };
 
 /* A part of the caller's bytes; empty where there is none. */
@@ -121,4 +126,8 @@ enum wv_verdict wv_roll(struct wv_row *row, uint32_t id);
 
 int wv_receive(struct wv_table *table, const struct wv_arrival *a, uint8_t *out, size_t room, struct wv_received *r);
 int wv_remove(struct wv_table *table, uint64_t node, uint16_t key_id);
+
+/* The rows in use as records of 18 bytes, and back; `len` and `rows` get how many bytes or rows they are. */
+int wv_save(const struct wv_table *table, uint8_t *out, size_t room, size_t *len);
+int wv_restore(struct wv_table *table, const uint8_t *saved, size_t len, size_t *rows);
 #endif

@@ -1,5 +1,6 @@
-/* check: the worked examples through the adapter: X and its acknowledgement, the refusals of two bytes, the ledger P1 to P12 by its verdicts.
- * Exit status: 0, or the number of the first that fails: 1 to 12 for the ledger, 101 and up for the rest. */
+/* check: the worked examples through the adapter: X and its acknowledgement, the refusals of two bytes, the ledger P1 to P12 by its verdicts, and
+ * the row of X saved, restored and refused. Exit status: 0, or the number of the first that fails: 1 to 12 for the ledger, 101 and up for
+ * the rest. */
 #include "start.h"
 #include "messages.h"
 
@@ -46,6 +47,32 @@ static uint32_t marks(uint32_t highest)
 	return set;
 }
 
+/* The row of X, saved and restored; and two rows, the second with one byte changed, taken or refused. */
+static void saved_rows(void)
+{
+	static const uint8_t row[18] = { 0x52, 0x57, 2, 0, 0, 0, 0, 0, 0, 0x0e, 0, 0, 5 };
+	static const struct { uint8_t at, byte; long answer; } changes[] = {
+		{ 11, 0x20, 2 }, { 9, 0x0f, 2 }, { 12, 6, -26 }, { 2, 0, 2 }, { 11, 0x30, -25 }, { 10, 1, -25 }, { 17, 0x80, -25 }, { 0, 0x57, -23 }, { 1, 0x58, -23 },
+	};
+	uint8_t bytes[36];
+
+	gw_open(table);
+	put_id(X, 5);
+	receive(X, sizeof X);
+	must(120, gw_save(table, out, 17) == -19 && gw_save(table, out, 18) == 18);
+	for (size_t i = 0; i < sizeof row; i++)
+		must(121, out[i] == row[i]);
+	must(122, gw_restore(table, row, 17) == -24 && gw_restore(table, row, 0) == 0 && !receive(X, sizeof X).duplicate);
+	gw_open(table);
+	must(123, gw_restore(table, row, 18) == 1 && receive(X, sizeof X).duplicate);
+	for (size_t i = 0; i < sizeof changes / sizeof *changes; i++) {
+		for (size_t k = 0; k < sizeof bytes; k++)
+			bytes[k] = row[k % 18];
+		bytes[18 + changes[i].at] = changes[i].byte;
+		must(124, gw_restore(table, bytes, sizeof bytes) == changes[i].answer);
+	}
+}
+
 static void bench_begin(long *stack)
 {
 	(void)stack;
@@ -84,5 +111,6 @@ static void bench_begin(long *stack)
 	must(11, ask(false, 25) == 'n' && marks(25) == MARK(15));
 	HEARD(false, 10, 9);
 	must(12, ask(false, 26) == 'n' && marks(26) == 0);
+	saved_rows();
 	quit(0);
 }

@@ -1,16 +1,17 @@
 /* The message core of a gateway for Weave messages (format 1.3): reading, writing and framing of messages, the table that
- * tells a message heard before from a new one, and the acknowledgement. The archive is for x86-64.
+ * tells a message heard before from a new one, its saving and restoring, and the acknowledgement. The archive is for x86-64.
  *
  * Answers.   Every function gives the number of the first refusal that applies, 0 for none. A refused call leaves all that it
  *            was lent as it was. Any bytes, numbers and table contents get an answer; what they hold need not be checked.
  * Memory.    The caller owns all of it. The library has no heap and no global state, and keeps no pointer after a call.
  *            An array is lent at its full size, and no two arrays that are lent to one call may overlap. A pointer whose
  *            length is 0 may be NULL; no other may.
- * Lengths.   Any number is a length. What is longer than a message can be is refused and not read, but for the first byte of
- *            a payload; of a stream the first two bytes are read. No more of a room is written than is needed. Past PTRDIFF_MAX,
- *            which no object has, this is tested and not proved.
+ * Lengths.   Any number is a length. What is longer than a message can be, or than all saved rows can be, is refused and not read,
+ *            but for the first byte of a payload; of a stream the first two bytes are read. No more of a room is written than is
+ *            needed. Past PTRDIFF_MAX, which no object has, this is tested and not proved.
  * Threads.   One caller at a time for one table; calls with different tables may run at once.
- * The table. KABIZARLE_TABLE_WORDS words; all zero is the empty table. Its rows are KABIZARLE_ROW_WORDS words each.
+ * The table. KABIZARLE_TABLE_WORDS words; all zero is the empty table. Its rows are KABIZARLE_ROW_WORDS words each. Save it before
+ *            the power goes off, and restore it at the next start: a table that starts empty takes old messages as new.
  * Nodes.     A node is a number, EUI[0] its most significant byte: 02 00 00 00 00 00 00 01 is 0x0200000000000001.
  * Parts.     A start counts from the first byte that the call was given. */
 #ifndef KABIZARLE_H
@@ -32,6 +33,8 @@ extern "C" {
 #define KABIZARLE_FRAME_BYTES 2            /* bytes of the length that stands before a message in a stream */
 #define KABIZARLE_CHECK_BYTES 20           /* bytes of the check of an encrypted message */
 #define KABIZARLE_ACKNOWLEDGEMENT_BYTES 56 /* bytes of the longest acknowledgement */
+#define KABIZARLE_RECORD_BYTES 18          /* bytes of the record of a saved row */
+#define KABIZARLE_SAVED_BYTES 576          /* bytes of the records of all rows: room for every table */
 #define KABIZARLE_FIELDS 16                /* places of a message as numbers */
 #define KABIZARLE_PART_PLACES 2            /* places of an outer reading */
 #define KABIZARLE_FRAME_PLACES 5           /* places of an unframing */
@@ -96,29 +99,33 @@ extern "C" {
 #define KABIZARLE_MARKS_WORD 2 /* bits 14 to 0: the marks */
 
 /* Refusals. */
-#define KABIZARLE_NO_REFUSAL 0           /* the answer of a call that refuses nothing */
-#define KABIZARLE_REFUSED_TOO_LONG 1     /* longer than 1,232 bytes */
-#define KABIZARLE_REFUSED_TOO_SHORT 2    /* fewer bytes than the fields need */
-#define KABIZARLE_REFUSED_VERSION 3      /* a version other than 1 and 2 */
-#define KABIZARLE_REFUSED_RESERVED 4     /* a reserved bit of the header is set */
-#define KABIZARLE_REFUSED_OLD_TUNNEL 5   /* a tunnelled message of version 1 */
-#define KABIZARLE_REFUSED_ENCRYPT 6      /* an encrypt type other than 0 and 1 */
-#define KABIZARLE_REFUSED_KEY 7          /* encrypted, with a key type other than 1 and 2 */
-#define KABIZARLE_REFUSED_SOURCE 8       /* a source that is all zero or all ones */
-#define KABIZARLE_REFUSED_DESTINATION 9  /* a destination that is all zero */
-#define KABIZARLE_REFUSED_EXCHANGE 10    /* F is zero, or a reserved bit of the exchange header is set */
-#define KABIZARLE_REFUSED_OLD_ASKS 11    /* A or R in version 1 */
-#define KABIZARLE_REFUSED_TUNNEL 12      /* a tunnel version other than 1 */
-#define KABIZARLE_REFUSED_PACKET 13      /* a packet that is neither IPv4 nor IPv6 */
-#define KABIZARLE_REFUSED_STRAY 14       /* writing: a place that its field cannot hold, an absent field not 0, or a wrong check length */
-#define KABIZARLE_REFUSED_OWN_NODE 15    /* the own node is all zero or all ones */
-#define KABIZARLE_REFUSED_NOT_OURS 16    /* the destination is neither the own node nor Any */
-#define KABIZARLE_REFUSED_SENDER 17      /* no source in the message, and the link's node is all zero or all ones */
-#define KABIZARLE_REFUSED_CHECK 18       /* encrypted, and the check did not pass */
-#define KABIZARLE_REFUSED_NO_ROOM 19     /* the output buffer is too small */
-#define KABIZARLE_REFUSED_FULL 20        /* the name has no row, and all rows are in use */
-#define KABIZARLE_REFUSED_NO_ROW 21      /* the name to be removed has no row */
-#define KABIZARLE_REFUSED_UNWRITABLE 22  /* the acknowledgement cannot be written, for a reason other than its room */
+#define KABIZARLE_NO_REFUSAL 0            /* the answer of a call that refuses nothing */
+#define KABIZARLE_REFUSED_TOO_LONG 1      /* longer than 1,232 bytes */
+#define KABIZARLE_REFUSED_TOO_SHORT 2     /* fewer bytes than the fields need */
+#define KABIZARLE_REFUSED_VERSION 3       /* a version other than 1 and 2 */
+#define KABIZARLE_REFUSED_RESERVED 4      /* a reserved bit of the header is set */
+#define KABIZARLE_REFUSED_OLD_TUNNEL 5    /* a tunnelled message of version 1 */
+#define KABIZARLE_REFUSED_ENCRYPT 6       /* an encrypt type other than 0 and 1 */
+#define KABIZARLE_REFUSED_KEY 7           /* encrypted, with a key type other than 1 and 2 */
+#define KABIZARLE_REFUSED_SOURCE 8        /* a source that is all zero or all ones */
+#define KABIZARLE_REFUSED_DESTINATION 9   /* a destination that is all zero */
+#define KABIZARLE_REFUSED_EXCHANGE 10     /* F is zero, or a reserved bit of the exchange header is set */
+#define KABIZARLE_REFUSED_OLD_ASKS 11     /* A or R in version 1 */
+#define KABIZARLE_REFUSED_TUNNEL 12       /* a tunnel version other than 1 */
+#define KABIZARLE_REFUSED_PACKET 13       /* a packet that is neither IPv4 nor IPv6 */
+#define KABIZARLE_REFUSED_STRAY 14        /* writing: a place that its field cannot hold, an absent field not 0, or a wrong check length */
+#define KABIZARLE_REFUSED_OWN_NODE 15     /* the own node is all zero or all ones */
+#define KABIZARLE_REFUSED_NOT_OURS 16     /* the destination is neither the own node nor Any */
+#define KABIZARLE_REFUSED_SENDER 17       /* no source in the message, and the link's node is all zero or all ones */
+#define KABIZARLE_REFUSED_CHECK 18        /* encrypted, and the check did not pass */
+#define KABIZARLE_REFUSED_NO_ROOM 19      /* the output buffer is too small; saving: for all rows in use */
+#define KABIZARLE_REFUSED_FULL 20         /* the name has no row, and all rows are in use */
+#define KABIZARLE_REFUSED_NO_ROW 21       /* the name to be removed has no row */
+#define KABIZARLE_REFUSED_UNWRITABLE 22   /* the acknowledgement cannot be written, for a reason other than its room */
+#define KABIZARLE_REFUSED_SAVED_MARK 23   /* saved rows: a record does not begin with 52 57 */
+#define KABIZARLE_REFUSED_SAVED_LENGTH 24 /* saved rows: a length that is no multiple of 18, or more than 32 records */
+#define KABIZARLE_REFUSED_SAVED_ROW 25    /* saved rows: a node all zero or all ones, a key id neither 0 nor of type 1 or 2, or bit 15 of the marks set */
+#define KABIZARLE_REFUSED_SAVED_TWICE 26  /* saved rows: a name twice */
 
 /* Says which part of a message the radio module has to open. Refuses with 1 to 9. */
 uint32_t kabizarle_read_outer(const uint8_t *bytes, size_t length, uint64_t part[KABIZARLE_PART_PLACES]);
@@ -156,6 +163,16 @@ uint32_t kabizarle_roll(uint64_t row[KABIZARLE_ROW_WORDS], uint32_t id, uint64_t
 
 /* Shows the row at a number; past the last row it is free, and all places are 0; never refuses. */
 uint32_t kabizarle_row(const uint64_t table[KABIZARLE_TABLE_WORDS], size_t number, uint64_t row[KABIZARLE_ROW_PLACES]);
+
+/* Saves the table: a record of KABIZARLE_RECORD_BYTES for each row in use, in row order; `written` gets the length of them all, 0 for
+ * the empty table. Save before the power goes off, and often: what is heard later is not in it. KABIZARLE_SAVED_BYTES of room always
+ * suffice. Refuses with 19. */
+uint32_t kabizarle_save(const uint64_t table[KABIZARLE_TABLE_WORDS], uint8_t *out, size_t room, uint64_t *written);
+
+/* Replaces the whole table by saved rows: they are placed from the first row on, and all other rows are free and zero; `placed` gets how many
+ * they are. No bytes give the empty table. A message that was accepted after the save can be new again. Refuses with 24, 23, 25 and 26,
+ * in this order, each looked for in all records before the next. */
+uint32_t kabizarle_restore(uint64_t table[KABIZARLE_TABLE_WORDS], const uint8_t *bytes, size_t length, uint64_t *placed);
 
 #ifdef __cplusplus
 }

@@ -27,7 +27,7 @@ static const uint8_t TUNNEL[12] = { 0x00, 0x24, 6, 0, 0, 0, 1, 0x45, 1, 2, 3, 4 
 /* All that a call can be lent, and a copy from before the call. */
 static struct lent {
 	uint64_t fields[KABIZARLE_FIELDS], table[KABIZARLE_TABLE_WORDS], part[KABIZARLE_PART_PLACES], frame[KABIZARLE_FRAME_PLACES];
-	uint64_t row[KABIZARLE_ROW_WORDS], shown[KABIZARLE_ROW_PLACES], written, verdict;
+	uint64_t row[KABIZARLE_ROW_WORDS], shown[KABIZARLE_ROW_PLACES], written, verdict, placed;
 	uint8_t out[KABIZARLE_LONGEST + KABIZARLE_FRAME_BYTES];
 } lent, kept;
 
@@ -535,6 +535,234 @@ static void rolling(void)
 	rolled(odd + in_use + 20, ALL_ONES, 21, NEW, in_use + 21, MARKS);
 }
 
+/* Puts the record of a saved row. */
+static void put_record(uint8_t *at, uint64_t node, uint16_t key, uint32_t highest, uint16_t marks)
+{
+	at[0] = 0x52, at[1] = 0x57;
+	for (int i = 0; i < 8; i++)
+		at[2 + i] = (uint8_t)(node >> (56 - 8 * i));
+	at[10] = (uint8_t)key, at[11] = (uint8_t)(key >> 8);
+	for (int i = 0; i < 4; i++)
+		at[12 + i] = (uint8_t)(highest >> (8 * i));
+	at[16] = (uint8_t)marks, at[17] = (uint8_t)(marks >> 8);
+}
+
+/* A row as its three words. */
+static void put_words(size_t row, uint64_t node, uint64_t state, uint64_t marks)
+{
+	memcpy(&lent.table[3 * row], (const uint64_t[]){ node, state, marks }, 24);
+}
+
+/* The table is saved as these bytes: in their room, in more and in any, and refused in less. Nothing else of what is lent changes. */
+static void saved_as(const uint8_t *bytes, size_t length)
+{
+	for (size_t room = 0; room < length; room++)
+		REFUSED(19, kabizarle_save(lent.table, lent.out, room, &lent.written));
+	if (length > 0)
+		REFUSED(19, kabizarle_save(lent.table, NULL, 0, &lent.written));
+	kept = lent;
+	kept.written = length;
+	for (size_t more = 0; more < 40; more++) {
+		uint8_t *out = write_end - length - more;
+
+		memset(out, 0xa5, length + more);
+		MUST(kabizarle_save(lent.table, out, length + more, &lent.written) == 0 && memcmp(out, bytes, length) == 0);
+		MUST(more == 0 || (out[length] == 0xa5 && memcmp(out + length, out + length + 1, more - 1) == 0));
+	}
+	for (size_t i = 0; i < LENGTH(TOO_LONG); i++) {
+		memset(write_end - length, 0xa5, length);
+		MUST(kabizarle_save(lent.table, write_end - length, TOO_LONG[i], &lent.written) == 0 && memcmp(write_end - length, bytes, length) == 0);
+	}
+	MUST(unchanged());
+}
+
+/* Tables that are saved: none in use, all in use, some between free rows; bits of no field are not saved, and a row is saved whatever it says. */
+static void saving(void)
+{
+	const uint64_t in_use = UINT64_C(1) << 48, odd = UINT64_C(0xfffe) << 48, key = UINT64_C(0x2001) << 32;
+	uint8_t bytes[KABIZARLE_SAVED_BYTES] = { 0 };
+
+	MUST(KABIZARLE_SAVED_BYTES == KABIZARLE_ROWS * KABIZARLE_RECORD_BYTES);
+	start();
+	saved_as(bytes, 0);
+	MUST(kabizarle_save(lent.table, NULL, 0, &lent.written) == 0 && lent.written == 0);
+	for (size_t i = 0; i < KABIZARLE_ROWS; i++)
+		put_words(i, ALL_ONES - i, ~in_use, ALL_ONES); /* free, whatever else they hold */
+	saved_as(bytes, 0);
+	put_words(1, SENDER, odd + in_use + key + 0x01020304, ALL_ONES);
+	put_words(7, 0, in_use + (UINT64_C(0x3000) << 32) + UINT32_MAX, ~(uint64_t)MARKS);
+	put_words(30, ALL_ONES, in_use, 0x5a5a);
+	put_words(31, SENDER, in_use + key, 1);
+	put_record(bytes, SENDER, 0x2001, 0x01020304, MARKS);
+	put_record(bytes + 18, 0, 0x3000, UINT32_MAX, 0);
+	put_record(bytes + 36, ALL_ONES, 0, 0, 0x5a5a);
+	put_record(bytes + 54, SENDER, 0x2001, 0, 1);
+	saved_as(bytes, 72);
+	for (size_t i = 0; i < KABIZARLE_ROWS; i++) {
+		put_words(i, SENDER + i, in_use + (key + i) + odd, i << 10 | UINT64_C(1) << 15);
+		put_record(bytes + 18 * i, SENDER + i, 0x2001, (uint32_t)i, (uint16_t)(i << 10 & MARKS));
+	}
+	saved_as(bytes, sizeof bytes);
+}
+
+static uint32_t restore(const uint8_t *bytes, size_t length)
+{
+	return kabizarle_restore(lent.table, lend(bytes, length), length, &lent.placed);
+}
+
+/* The records are restored from a table of rubbish: their rows are the first, all other words are zero, and they are saved as the same bytes. */
+static void restored(const uint8_t *bytes, size_t count)
+{
+	static const uint64_t zeros[KABIZARLE_TABLE_WORDS];
+
+	scatter();
+	kept = lent;
+	MUST(restore(bytes, 18 * count) == 0 && lent.placed == count);
+	MUST(memcmp(lent.table + 3 * count, zeros, sizeof zeros - 24 * count) == 0);
+	kept.placed = count;
+	memcpy(kept.table, lent.table, sizeof lent.table);
+	MUST(unchanged());
+	MUST(kabizarle_save(lent.table, lent.out, sizeof lent.out, &lent.written) == 0 && lent.written == 18 * count);
+	MUST(memcmp(lent.out, bytes, 18 * count) == 0);
+	for (size_t i = 0; i < count; i++) {
+		MUST(kabizarle_row(lent.table, i, lent.shown) == 0 && lent.shown[KABIZARLE_ROW_USED] == 1);
+		put_record(lent.out, lent.shown[KABIZARLE_ROW_NODE], (uint16_t)lent.shown[KABIZARLE_ROW_KEY], (uint32_t)lent.shown[KABIZARLE_ROW_HIGHEST],
+			(uint16_t)lent.shown[KABIZARLE_ROW_MARKS]);
+		MUST(memcmp(lent.out, bytes + 18 * i, 18) == 0);
+	}
+}
+
+/* Saved rows of other nodes, with their key ids by turns plain, of a fabric and of a session. */
+static void make_records(uint8_t *bytes, size_t count)
+{
+	static const uint16_t keys[] = { 0, 0x1000, 0x2fff };
+
+	for (size_t i = 0; i < count; i++)
+		put_record(bytes + 18 * i, SENDER + i, keys[i % LENGTH(keys)], (uint32_t)(0x9e3779b9 * i), (uint16_t)(MARKS >> i % 16));
+}
+
+/* The faults of saved rows, those that are refused first last. */
+enum fault { NAME_TWICE, NODE_ZERO, NODE_ONES, KEY_TYPE_0, KEY_TYPE_3, KEY_TYPE_15, BIT_15, FIRST_OF_MARK, SECOND_OF_MARK, FAULTS };
+
+/* Puts a fault into one of the records: its number. */
+static uint32_t spoil(uint8_t *bytes, size_t count, size_t number, enum fault fault)
+{
+	uint8_t *at = bytes + 18 * number;
+
+	if (fault == NAME_TWICE)
+		memcpy(at + 2, bytes + 18 * ((number + 1) % count) + 2, 10);
+	if (fault == NODE_ZERO || fault == NODE_ONES)
+		memset(at + 2, fault == NODE_ZERO ? 0 : 0xff, 8);
+	if (fault == KEY_TYPE_0 || fault == KEY_TYPE_3 || fault == KEY_TYPE_15)
+		at[10] = 1, at[11] = fault == KEY_TYPE_0 ? 0 : fault == KEY_TYPE_3 ? 0x30 : 0xf0;
+	if (fault == BIT_15)
+		at[17] |= 0x80;
+	if (fault == FIRST_OF_MARK || fault == SECOND_OF_MARK)
+		at[fault == SECOND_OF_MARK] = 0x55;
+	return fault == NAME_TWICE ? KABIZARLE_REFUSED_SAVED_TWICE : fault <= BIT_15 ? KABIZARLE_REFUSED_SAVED_ROW : KABIZARLE_REFUSED_SAVED_MARK;
+}
+
+/* Every fault in every record; of two, in whichever records they stand, the one that comes first in the order; and 24 before them all. */
+static void refusals_of_restoring(void)
+{
+	uint8_t bytes[KABIZARLE_SAVED_BYTES + KABIZARLE_RECORD_BYTES];
+
+	scatter();
+	for (enum fault fault = NAME_TWICE; fault < FAULTS; fault++)
+		for (size_t i = 0; i < KABIZARLE_ROWS; i++) {
+			make_records(bytes, KABIZARLE_ROWS);
+			uint32_t number = spoil(bytes, KABIZARLE_ROWS, i, fault);
+			REFUSED(number, restore(bytes, KABIZARLE_SAVED_BYTES));
+		}
+	for (enum fault late = NAME_TWICE; late < FAULTS; late++)
+		for (enum fault early = late; early < FAULTS; early++)
+			for (size_t k = 0; k < 9; k++) {
+				make_records(bytes, 33);
+				spoil(bytes, 3, k / 3, late);
+				uint32_t number = spoil(bytes, 3, k % 3, early);
+				REFUSED(number, restore(bytes, 54));
+				REFUSED(24, restore(bytes, 53));
+				REFUSED(24, restore(bytes, sizeof bytes));
+			}
+	for (size_t i = 0; i < KABIZARLE_ROWS; i++)
+		for (size_t k = 0; k < i; k++) {
+			make_records(bytes, KABIZARLE_ROWS);
+			memcpy(bytes + 18 * i + 2, bytes + 18 * k + 2, 10);
+			REFUSED(26, restore(bytes, KABIZARLE_SAVED_BYTES));
+		}
+}
+
+/* What is taken: any number of records up to 32, one node under several keys, the first two and the last key id of every type, of which those of 1 and 2 are taken, and 0; every mark, and no bit 15. */
+static void restoring(void)
+{
+	uint8_t bytes[KABIZARLE_SAVED_BYTES];
+
+	make_records(bytes, KABIZARLE_ROWS);
+	for (size_t count = 0; count <= KABIZARLE_ROWS; count++)
+		restored(bytes, count);
+	for (uint32_t key = 0; key <= UINT16_MAX; key += key % 0x1000 == 1 ? 0xffe : 1) {
+		put_record(bytes, SENDER, (uint16_t)key, 0, 0);
+		if (key == 0 || key >> 12 == 1 || key >> 12 == 2)
+			restored(bytes, 1);
+		else
+			REFUSED(25, restore(bytes, 18));
+	}
+	put_record(bytes, SENDER, 0x1001, 7, 0);
+	put_record(bytes + 18, SENDER, 0, 7, 0);
+	put_record(bytes + 36, SENDER, 0x2001, 7, 0);
+	restored(bytes, 3);
+	for (int bit = 0; bit < 15; bit++) {
+		put_record(bytes, SENDER, 0, UINT32_MAX, (uint16_t)(1 << bit));
+		restored(bytes, 1);
+	}
+	scatter();
+	MUST(kabizarle_restore(lent.table, NULL, 0, &lent.placed) == 0 && lent.placed == 0 && lent.table[0] == 0);
+}
+
+/* Lengths that are not those of records: nothing is read of what is too long, whatever the length, also where it is a multiple of 18. */
+static void lengths_of_restoring(void)
+{
+	uint8_t bytes[KABIZARLE_SAVED_BYTES];
+
+	make_records(bytes, KABIZARLE_ROWS);
+	scatter();
+	for (size_t n = 1; n < sizeof bytes; n++)
+		if (n % 18 != 0)
+			REFUSED(24, restore(bytes, n));
+	for (size_t i = 0; i < LENGTH(TOO_LONG); i++) {
+		REFUSED(24, kabizarle_restore(lent.table, read_end, TOO_LONG[i], &lent.placed));
+		REFUSED(24, kabizarle_restore(lent.table, read_end, TOO_LONG[i] - TOO_LONG[i] % 18, &lent.placed));
+	}
+	for (size_t n = sizeof bytes + 1; n < sizeof bytes + 40; n++)
+		REFUSED(24, kabizarle_restore(lent.table, read_end, n, &lent.placed));
+}
+
+/* What was heard before the save is a duplicate after the restore, and what was held back is new; rows that are refused can be saved. */
+static void over_winter(void)
+{
+	uint8_t bytes[KABIZARLE_SAVED_BYTES], late[sizeof X];
+
+	start();
+	memcpy(late, X, sizeof X);
+	late[2] = 4;
+	MUST(receive(X, sizeof X) == 0 && receive(SECRET, sizeof SECRET) == 0 && lent.fields[KABIZARLE_VERDICT] == KABIZARLE_NEW);
+	MUST(kabizarle_save(lent.table, bytes, sizeof bytes, &lent.written) == 0 && lent.written == 36);
+	kept = lent;
+	MUST(receive(late, sizeof late) == 0 && lent.fields[KABIZARLE_VERDICT] == KABIZARLE_NEW);
+	memset(lent.table, 0xff, sizeof lent.table);
+	MUST(restore(bytes, 36) == 0 && memcmp(lent.table, kept.table, sizeof lent.table) == 0);
+	MUST(receive(X, sizeof X) == 0 && lent.fields[KABIZARLE_VERDICT] == KABIZARLE_DUPLICATE);
+	MUST(receive(SECRET, sizeof SECRET) == 0 && lent.fields[KABIZARLE_VERDICT] == KABIZARLE_DUPLICATE);
+	MUST(memcmp(lent.table, kept.table, sizeof lent.table) == 0);
+	MUST(receive(late, sizeof late) == 0 && lent.fields[KABIZARLE_VERDICT] == KABIZARLE_NEW);
+	put_words(5, lent.table[0], lent.table[1], 0);
+	MUST(kabizarle_save(lent.table, bytes, sizeof bytes, &lent.written) == 0 && lent.written == 54);
+	REFUSED(26, restore(bytes, 54));
+	put_words(5, 0, lent.table[1], 0);
+	MUST(kabizarle_save(lent.table, bytes, sizeof bytes, &lent.written) == 0 && lent.written == 54);
+	REFUSED(25, restore(bytes, 54));
+}
+
 int main(void)
 {
 	read_end = guarded();
@@ -564,6 +792,11 @@ int main(void)
 	odd_tables();
 	rows();
 	rolling();
+	saving();
+	refusals_of_restoring();
+	restoring();
+	lengths_of_restoring();
+	over_winter();
 	printf("%u checks passed\n", passed);
 	if (failed)
 		printf("%u checks failed\n", failed);

@@ -5,6 +5,8 @@ LONGEST = 1232
 ANY = 2 ** 64 - 1
 MARKS = 15
 ROWS = 32
+RECORD = 18
+SAVED = b'\x52\x57'
 FIELDS = ('version', 'T', 'S', 'D', 'encrypt', 'id', 'source', 'destination', 'key', 'I', 'A', 'R', 'type', 'exchange', 'profile', 'acknowledged')
 
 
@@ -172,6 +174,11 @@ class Row:
     def fields(self):
         return self.used, self.node, self.key, self.highest, self.raw
 
+    def record(self):
+        """The row as it is saved: a bit that stands for no mark is zero."""
+        marks = self.raw & (1 << MARKS) - 1
+        return SAVED + self.node.to_bytes(8, 'big') + self.key.to_bytes(2, 'little') + self.highest.to_bytes(4, 'little') + marks.to_bytes(2, 'little')
+
 
 # ---- the gateway
 
@@ -205,6 +212,23 @@ class Gateway:
         row = self.find(node, key)
         refuse(21, row is None)
         self.rows[self.rows.index(row)] = Row()
+
+    def save(self, room):
+        out = b''.join(r.record() for r in self.rows if r.used)
+        refuse(19, len(out) > room)
+        return out
+
+    def restore(self, data):
+        """How many rows were placed. Each refusal is looked for in all records before the next."""
+        refuse(24, len(data) % RECORD or len(data) > RECORD * ROWS)
+        records = [data[at:at + RECORD] for at in range(0, len(data), RECORD)]
+        refuse(23, any(r[0:2] != SAVED for r in records))
+        rows = [Row(1, high(r[2:10]), low(r[10:12]), low(r[12:16]), low(r[16:18])) for r in records]
+        refuse(25, any(nobody(r.node) or r.key != 0 and r.key >> 12 not in (1, 2) or r.raw >> MARKS for r in rows))
+        names = [(r.node, r.key) for r in rows]
+        refuse(26, len(set(names)) < len(names))
+        self.rows = rows + [Row() for _ in range(ROWS - len(rows))]
+        return len(rows)
 
 
 # ---- the programs
@@ -317,6 +341,16 @@ class Conform:
         if name == 11:
             rows = [(i,) + r.fields() for i, r in enumerate(self.gateway.rows)]
             return 'rows' + ''.join(' %d:%d:%016x:%d:%d:%d' % r for r in rows if any(r[1:]))
+        if name == 12:
+            room = low(body[0:2])
+            if len(body) < 2 or room > 1300:
+                return 'bad'
+            return self.written('saved', room, lambda: self.gateway.save(room))
+        if name == 13:
+            try:
+                return 'restored %d' % self.gateway.restore(body)
+            except Refused as r:
+                return 'refused %d' % r.number
         return 'bad'
 
     def record(self, body):

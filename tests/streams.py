@@ -1,5 +1,6 @@
 """Inputs for the programs `conform` and `listing`, made with a fixed seed: messages that are legal, nearly legal and rubbish, cut at every
-length, every single-bit change of message X, ids at every edge of the rule of positions, and tables handed in as no message could leave them."""
+length, every single-bit change of message X, ids at every edge of the rule of positions, tables handed in as no message could leave them, and saved
+rows, as they stand and with one or two faults."""
 import random
 
 import model
@@ -35,7 +36,7 @@ class Maker:
         r = self.random
         encrypt, tunnelled = int(self.chance(0.5)), int(self.chance(0.15))
         v = dict.fromkeys(model.FIELDS, 0)
-        v.update(version=1 if self.chance(0.02 if tunnelled else 0.15) else 2, T=tunnelled, encrypt=encrypt, S=int(self.chance(0.85)), D=int(self.chance(0.8)))
+        v.update(version=1 if self.chance(0.05 if tunnelled else 0.15) else 2, T=tunnelled, encrypt=encrypt, S=int(self.chance(0.85)), D=int(self.chance(0.8)))
         v['source'] = self.node() if v['S'] else 0
         v['destination'] = r.choice((OWN, OWN, OWN, model.ANY, self.node())) if v['D'] else 0
         v['key'] = r.choice(self.keys) if encrypt else 0
@@ -80,6 +81,45 @@ class Maker:
             data = bytearray(self.random.randbytes(self.random.randrange(60)))
         return bytes(data)
 
+    def records(self, count):
+        """Saved rows under names of their own, with highest ids near what was last sent under them."""
+        names = self.random.sample([(node, key) for node in self.nodes for key in [0] + self.keys], count)
+        return [bytearray(model.Row(1, node, key, self.id((node, key)), self.random.getrandbits(15)).record()) for node, key in names]
+
+    def saved(self, rows):
+        """Saved rows, of a table's rows or others; as often as not with one fault, or two."""
+        r = self.random
+        records = [bytearray(row.record()) for row in rows if row.used]
+        if self.chance(0.6):
+            records = self.records(r.choice((0, 1, 2, 3, 5, 31, 32, 32)))
+        for _ in range(r.choice((0, 0, 1, 1, 2))):
+            if records:
+                self.spoil(records)
+        data = b''.join(records)
+        if self.chance(0.1):
+            data = data[:r.randrange(len(data) + 1)] if self.chance(0.7) else data + r.randbytes(r.randrange(20))
+        return data
+
+    def spoil(self, records):
+        """One fault in one record, or a name twice, or more records than there are rows."""
+        r, fault = self.random, self.random.randrange(8)
+        record = r.choice(records)
+        if fault == 0:
+            record[r.randrange(model.RECORD)] ^= 1 << r.randrange(8)
+        elif fault == 1:
+            record[0:2] = r.choice((b'\x57\x52', b'\x52\x58', b'\x00\x00', b'\x52\x00', b'\x00\x57'))
+        elif fault == 2:
+            record[2:10] = r.choice((bytes(8), b'\xff' * 8))
+        elif fault == 3:
+            record[10:12] = two(r.choice((1, 0x0fff, 0x3000, 0x3001, 0x4001, 0x8001, 0x9001, 0xa001, 0xffff)))
+        elif fault == 4:
+            record[17] |= 0x80
+        elif fault < 7:
+            record[2:12] = r.choice(records)[2:12]
+            records += [bytearray(record)] if self.chance(0.2) else []
+        else:
+            records += self.records(r.choice((1, 32, 33 - len(records) if len(records) < 33 else 1)))
+
 
 def command(name, *parts):
     body = bytes([name]) + b''.join(parts)
@@ -119,25 +159,47 @@ def fixed():
                 for step in EDGES:
                     row = bytes([1]) + eight(14) + two(key) + four(highest) + two(marks)
                     out.append(command(6, row, four((highest + step) % 2 ** 32)))
-    return out
+    return out + restores()
+
+
+def restores():
+    """Two saved rows, whole, cut at every length and with every single bit changed; the most records, and more; then a table with gaps, stray bits and
+    names that restoring refuses, saved with every room around the exact one."""
+    pair = model.Row(1, OWN + 1, 0x1001, 5, 3).record() + model.Row(1, OWN + 2, 0, 2 ** 32 - 1, 0x7fff).record()
+    out = [command(13, pair[:n]) for n in range(len(pair) + 1)]
+    for bit in range(8 * len(pair)):
+        data = bytearray(pair)
+        data[bit // 8] ^= 1 << bit % 8
+        out += [command(13, bytes(data)), command(11)]
+    for count in (31, 32, 33, 64, 3000):
+        data = b''.join(model.Row(1, OWN + i, 0x2001, i, 0).record() for i in range(count))
+        out += [command(13, data), command(11), command(13, data + b'\x52'), command(13, data[:-1]), command(12, two(576)), command(12, two(575))]
+    out.append(command(7))
+    for number, used, node, key in ((0, 0, 5, 0), (1, 1, 6, 0), (3, 1, 0, 0x3001), (4, 1, 6, 0), (31, 1, model.ANY, 0xffff)):
+        out.append(command(8, bytes([number, used]) + eight(node) + two(key) + four(2 ** 32 - 1 - number) + two(0xffff)))
+        out += [command(12, two(room)) for room in range(76)]
+    return out + [command(11), command(12, b''), command(12, b'\x00'), command(12, two(1300)), command(12, two(1301)), command(13), command(11)]
 
 
 def commands(seed, count):
-    m, out = Maker(seed), fixed()
-    r = m.random
+    m, out, program = Maker(seed), fixed(), model.Conform()
+    r, seen = m.random, 0
     while len(out) < count:
+        for c in out[seen:]:
+            program.line(c[2:])  # keeps the table that the program has by now, to be saved and restored
+        seen = len(out)
         kind = r.random()
-        if kind < 0.42:
+        if kind < 0.36:
             own = r.choice((0, model.ANY)) if m.chance(0.03) else OWN
             link = m.node() if m.chance(0.8) else r.choice((0, model.ANY))
             room = r.choice((0, 33, 34, 55, 56, 64, 64, 64, 64, 1300))
             data = X if m.chance(0.02) else m.message()
             out.append(command(9, eight(own), eight(link), bytes([int(m.chance(0.9))]), four(r.getrandbits(32)), two(room), data))
-        elif kind < 0.52:
+        elif kind < 0.44:
             out.append(command(1, m.message()))
-        elif kind < 0.57:
+        elif kind < 0.49:
             out.append(command(2, m.message()))
-        elif kind < 0.75:
+        elif kind < 0.66:
             v = m.value()
             payload, check = m.payload(v), r.randbytes(20 * v['encrypt'] if m.chance(0.9) else r.randrange(30))
             if m.chance(0.45):
@@ -146,18 +208,26 @@ def commands(seed, count):
                     r.choice((0, model.ANY, 5)) if f in ('source', 'destination') else r.getrandbits(16) if f in ('key', 'exchange') else r.getrandbits(8)
             room = r.choice((0, 20, 60, 100, 1232, 1300, 1301))
             out.append(command(3, packed(v), two(room), two(len(payload)), payload, check))
-        elif kind < 0.80:
+        elif kind < 0.71:
             data = m.message()
             cut = (two(len(data)) + data + r.randbytes(3))[:r.randrange(len(data) + 6)]
             out.append(command(4, cut))
             out.append(command(5, two(r.choice((0, len(data) + 1, len(data) + 2, 1300)) % 1302), data))
-        elif kind < 0.86:
+        elif kind < 0.77:
             row = bytes([r.getrandbits(1)]) + eight(m.node()) + two(r.choice((0, 1, 0x1001, 0xf000))) + four(r.getrandbits(32)) + two(r.getrandbits(16))
             out.append(command(6, row, four(r.getrandbits(32))))
-        elif kind < 0.90:
+        elif kind < 0.81:
             used = bytes([int(m.chance(0.6))])
-            row = used + eight(m.node()) + two(r.choice([0] + m.keys)) + four(r.getrandbits(32)) + two(r.getrandbits(16))
+            row = used + eight(m.node()) + two(r.choice([0] + m.keys) if m.chance(0.95) else r.getrandbits(16)) + four(r.getrandbits(32)) + two(r.getrandbits(16))
             out.append(command(8, bytes([r.randrange(34)]), row))
+        elif kind < 0.85:
+            exact = model.RECORD * sum(row.used for row in program.gateway.rows)
+            room = max(0, exact + r.choice((-18, -1, 0, 0, 1, 18))) if m.chance(0.7) else r.choice((0, 17, 18, 575, 576, 1300, 1301))
+            out.append(command(12, two(room)))
+        elif kind < 0.90:
+            out.append(command(13, m.saved(program.gateway.rows)))
+            if m.chance(0.5):
+                out.append(command(11))
         elif kind < 0.95:
             out.append(command(10, eight(m.node()), two(r.choice([0] + m.keys))))
         elif kind < 0.98:

@@ -4,3 +4,5 @@
 int memcmp(const void *a, const void *b, size_t length);
 void *memcpy(void *restrict to, const void *restrict from, size_t length);
 void *memset(void *to, int byte, size_t length);
+int strcmp(const char *a, const char *b);
+char *strrchr(const char *text, int c);

@@ -15,6 +15,7 @@ use Rattle.wire.proofs.One.{both}
 use Rattle.conditions.proofs.bad_version as version
 use Rattle.conditions.proofs.old_tunnel as tunnel
 use Rattle.conditions.proofs.bad_encrypt as encrypt
+use Rattle.conditions.proofs.bad_key_type as keyType
 use Rattle.conditions.proofs.address_refusal as address
 use Rattle.conditions.proofs.is_nobody as nobody
 use Rattle.conditions.proofs.old_asks as asks
@@ -35,6 +36,11 @@ module _ {M : Type 1} (𝓤 : URA M) (H : Heap 𝓤) (A : Atoms 𝓤) (at-mem : 
       → let allows : Bool → SProp 𝓤 = λ v. encrypt.clauses 𝓤 H A at-mem run tt (k, tt) .ensures tt v (k, tt) in
       ent 𝓤 (conj 𝓤 (allows r) (allows s)) (fact 𝓤 (r ≡ s))
   one-bad-encrypt k r s = both 𝓤 _ _ _ (λ e f. e ∙ sym f)
+
+  pub one-bad-key-type : (k : ℕ) (r s : Bool)
+      → let allows : Bool → SProp 𝓤 = λ v. keyType.clauses 𝓤 H A at-mem run tt (k, tt) .ensures tt v (k, tt) in
+      ent 𝓤 (conj 𝓤 (allows r) (allows s)) (fact 𝓤 (r ≡ s))
+  one-bad-key-type k r s = both 𝓤 _ _ _ (λ e f. e ∙ sym f)
 
   pub one-address-refusal : (m : Message) (r s : ℕ)
       → let allows : ℕ → SProp 𝓤 = λ v. address.clauses 𝓤 H A at-mem run tt (m, tt) .ensures tt v (m, tt) in

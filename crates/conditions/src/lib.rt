@@ -1,7 +1,7 @@
 // The conditions of the refusals that reading and writing share, one function each.
 ghost use mathlib.Core.Path.{_≡_};
 ghost use Rattle.message.specs.Order.{first};
-ghost use Rattle.message.specs.Refusals.{badVersion, oldTunnel, badEncrypt, badKey, nobody, badSource, badDestination, oldAsks, badPacket, addressOrder};
+ghost use Rattle.message.specs.Refusals.{badVersion, oldTunnel, badEncrypt, badKeyType, badKey, nobody, badSource, badDestination, oldAsks, badPacket, addressOrder};
 use message::Message;
 use message::Refusal;
 use message::layout;
@@ -27,12 +27,19 @@ pub fn bad_encrypt(encrypt: u8) -> bool
     !((encrypt == layout::PLAIN) | (encrypt == layout::ENCRYPTED))
 }
 
+// A key id of a type other than 1 and 2.
+pub fn bad_key_type(key: u16) -> bool
+    ensures { λ r. ⌜ r ≡ badKeyType key ⌝ }
+{
+    let kind = key / layout::KEY_TYPE % 16;
+    !((kind == layout::FABRIC) | (kind == layout::SESSION))
+}
+
 // 7
 fn bad_key(encrypt: u8, key: u16) -> bool
     ensures { λ r. ⌜ r ≡ badKey encrypt key ⌝ }
 {
-    let kind = key / layout::KEY_TYPE % 16;
-    (encrypt == layout::ENCRYPTED) & !((kind == layout::FABRIC) | (kind == layout::SESSION))
+    (encrypt == layout::ENCRYPTED) & bad_key_type(key)
 }
 
 // All zero or all ones: never the node of a sender.

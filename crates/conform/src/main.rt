@@ -5,6 +5,7 @@ mod body;
 mod messages;
 mod print;
 mod rows;
+mod saved;
 
 use libc::STDIN_FILENO;
 use table::WORDS;
@@ -29,6 +30,8 @@ fn command(name: u8, text: &[u8], table: &mut [u64; WORDS]) {
         9 => rows::receive(text, table),
         10 => rows::remove(text, table),
         11 => rows::rows(table),
+        12 => saved::save(text, table),
+        13 => saved::restore(text, table),
         _ => messages::bad(),
     }
     print::word(b"\n");

@@ -42,11 +42,11 @@ pub(crate) fn outer(message: &[u8]) {
     }
 }
 
-// What a writer answered, and the buffer after it.
-fn written(answer: Writing, buffer: &[u8]) {
+// What a writer answered, with a word for it where it wrote, and the buffer after it.
+pub(crate) fn written(word: &[u8], answer: Writing, buffer: &[u8]) {
     match answer {
         Writing::Written(n) => {
-            print::word(b"wrote");
+            print::word(word);
             print::number(n as u64);
         }
         Writing::Refused(refusal) => print::refused(refusal.number),
@@ -70,7 +70,7 @@ pub(crate) fn write(command: &[u8]) {
         check,
         body::part_mut(&mut space, room),
     );
-    written(answer, body::part(&space, 0, room));
+    written(b"wrote", answer, body::part(&space, 0, room));
 }
 
 pub(crate) fn unframe(stream: &[u8]) {
@@ -92,5 +92,5 @@ pub(crate) fn frame(command: &[u8]) {
     }
     let mut space = [BEFORE; ROOM];
     let answer = stream::frame(body::rest(command, 2), body::part_mut(&mut space, room));
-    written(answer, body::part(&space, 0, room));
+    written(b"wrote", answer, body::part(&space, 0, room));
 }

@@ -1,11 +1,13 @@
--- A history in numbers: the theorem over histories, applied to the messages of the listing's example and a removal, and what it then says
--- computed. Assumes nothing.
+-- A history in numbers: the theorem over histories, applied to the messages of the listing's example, a removal and a restore, and what it then
+-- says computed. Assumes nothing.
 use Prim.Native.Nat.{ℕ, _+_, _%_, _^_, _<_}
-use mathlib.Core.Path.{_≡_, refl, _∙_}
+use mathlib.Core.Path.{_≡_, refl, ap, ap₂, _∙_}
 use mathlib.Core.Bool.{Bool, true, false, _&&_}
 use mathlib.Core.List.{List, [], _∷_}
+use native.Mathlib.Omega.{arith}
 use borrow.Author.Tests.{ltb-true}
 use lib.Dec.{ltb}
+use Rattle.wire.specs.Bytes.{front}
 use Rattle.wire.proofs.Digits.{AllBytes, none, more}
 use Rattle.message.specs.Refusals.{stray, total}
 use Rattle.message.specs.Value.{addressOf, exchangedBy, messageOf}
@@ -15,28 +17,48 @@ use Rattle.message.proofs.Logic.{clash}
 use Rattle.judge.specs.Writing.{writingOrder, writeOf}
 use Rattle.outer.specs.Outer.{outerOrder}
 use Rattle.reader.specs.Reading.{exchangeOrder, tunnelOrder, bodyOrder, readingOrder}
-use Rattle.window.specs.Rule.{member, greatest, positionOf, positionAfter, isNewPosition, accepts, number, marksNumber}
-use Rattle.window.specs.Rows.{marksHeld, behindOf}
+use Rattle.window.specs.Rule.{member, greatest, positionOf, positionAfter, isNewPosition, accepts, number, marksNumber, bitAt, marked}
+use Rattle.window.specs.Rows.{marksHeld, behindOf, listOf, opened}
 use Rattle.window.specs.declared.Row.{Row}
-use Rattle.table.specs.Table.{rows, rowOf, findOf}
+use Rattle.window.specs.declared.Rolled.{Rolled}
+use Rattle.table.specs.Table.{rows, emptyTable, rowOf, withRow, named, isFree, firstBelow, findOf, freeOf, kept, inUse}
+use Rattle.table.proofs.Found.{none-there-none-found}
+use Rattle.table.proofs.Kept.{kept-one}
+use Rattle.table.proofs.Least.{least-is}
+use Rattle.table.proofs.Words.{same-row, other-row, empty-row}
 use Rattle.writer.specs.Acknowledgement.{acknowledgementOf, acknowledging}
-use Rattle.admission.specs.Admission.{admissionOrder, answerOf}
+use Rattle.admission.specs.Admission.{rowFor, rolledIn, admissionOrder, answerOf, tableAfter, tableBy}
+use Rattle.admission.specs.declared.answers.Received.{Received}
 use Rattle.admission.specs.declared.answers.Received.the-variants as Received
 use Rattle.reception.specs.declared.answers.Removed.the-variants as Removed
-use Rattle.reception.specs.Receiving.{Beside, beside, deliveryOrder, afterReading, receivingOrder}
-use Rattle.history.specs.History.{Step, arrives, leaves, ofArrival, ofLeaving, answerAt, tableAt, answersOf, tableOf, emptyTable, emptyBook, under, receiveBy, bookAt, answersBy, bookOf}
+use Rattle.reception.specs.Receiving.{Beside, beside, deliveryOrder, afterReading, receivingOrder, receiveOf, receiveTable}
+use Rattle.admission.proofs.Places.{opens}
+use Rattle.records.specs.Records.{recordOf, rowIn}
+use Rattle.records.specs.Saving.{recordsOf, savedBytes}
+use Rattle.records.specs.Restoring.{namedBefore, restoringOrder, restoreOf}
+use Rattle.records.specs.declared.answers.Restored.the-variants as Restored
+use Rattle.history.specs.History.{Step, arrives, leaves, restores, ofArrival, ofLeaving, ofRestoring, answerAt, tableAt, answersOf, tableOf, emptyBook, under, receiveBy, restoredBook, bookAt, answersBy, bookOf}
 use Rattle.history.specs.Telling.{Follows}
-use Rattle.history.proofs.Promises.{history-from-the-empty-table, row-shows-its-list, no-list-no-row}
+use Rattle.history.proofs.History.{history, told-empty}
+use Rattle.history.proofs.Steps.{arrival}
+use Rattle.history.proofs.Promises.{history-from-the-empty-table, row-shows-its-list, no-list-no-row, restored-goes-on-as-saved}
 
 -- ---- the messages
 
--- message X, and the two bytes after it
-abbrev x : List ℕ
-x =
-    0x00 ∷ 0x23 ∷ 0x05 ∷ 0x00 ∷ 0x00 ∷ 0x00
+-- message X with this id
+abbrev messageUnder : ℕ → List ℕ
+messageUnder n =
+    0x00 ∷ 0x23 ∷ n ∷ 0x00 ∷ 0x00 ∷ 0x00
     ∷ 0x02 ∷ 0x00 ∷ 0x00 ∷ 0x00 ∷ 0x00 ∷ 0x00 ∷ 0x00 ∷ 0x0E
     ∷ 0x02 ∷ 0x00 ∷ 0x00 ∷ 0x00 ∷ 0x00 ∷ 0x00 ∷ 0x00 ∷ 0x01
     ∷ 0x15 ∷ 0x02 ∷ 0x02 ∷ 0x01 ∷ 0x00 ∷ 0x00 ∷ 0x00 ∷ 0x00 ∷ []
+
+-- X itself, whose id is 5, the message after it, and the two bytes of the listing
+abbrev x : List ℕ
+x = messageUnder 0x05
+
+abbrev next : List ℕ
+next = messageUnder 0x06
 
 abbrev shortOne : List ℕ
 shortOne = 0x00 ∷ 0x14 ∷ []
@@ -45,16 +67,16 @@ shortOne = 0x00 ∷ 0x14 ∷ []
 abbrev node : ℕ → ℕ
 node n = 0x0200000000000000 + n
 
--- the value of X: id 5, from 02..0E to 02..01; I and R set; type 2 of profile 0, exchange id 0x0102
-abbrev valueOfX : Message
-valueOfX =
+-- its value: from 02..0E to 02..01; I and R set; type 2 of profile 0, exchange id 0x0102
+abbrev valueUnder : ℕ → Message
+valueUnder n =
     record {
       version = 2;
       tunnelled = false;
       sourced = true;
       destined = true;
       encrypt = 0;
-      id = 5;
+      id = n;
       source = node 14;
       destination = node 1;
       key = 0;
@@ -66,6 +88,9 @@ valueOfX =
       profile = 0;
       acknowledged = 0;
     }
+
+abbrev valueOfX : Message
+valueOfX = valueUnder 5
 
 -- as the listing has it: own node 02..01, link node zero, check passed, acknowledgements under id 0, room of 64 bytes
 abbrev there : Beside
@@ -132,3 +157,104 @@ removal-after-the-example = (follows .1 ∙ refl, no-list-no-row (follows .3) 0x
 pub x-after-its-removal : answerAt (tableOf emptyTable withRemoval) (arrives there x) ≡ ofArrival (Received.New valueOfX (headOf valueOfX) 34)
 unfolding bookOf bookAt receiveBy under receivingOrder readingOrder outerOrder bodyOrder exchangeOrder tunnelOrder afterReading deliveryOrder admissionOrder answerOf messageOf exchangedBy addressOf total acknowledgementOf acknowledging writeOf writingOrder stray member greatest positionOf positionAfter isNewPosition accepts behindOf
 x-after-its-removal = follows-removal .1 ∙ refl
+
+-- ---- saved and restored
+
+-- the record of X's row: its mark, the node, key id 0, highest id 5 and no marks
+abbrev saved : List ℕ
+saved =
+    0x52 ∷ 0x57
+    ∷ 0x02 ∷ 0x00 ∷ 0x00 ∷ 0x00 ∷ 0x00 ∷ 0x00 ∷ 0x00 ∷ 0x0E
+    ∷ 0x00 ∷ 0x00
+    ∷ 0x05 ∷ 0x00 ∷ 0x00 ∷ 0x00
+    ∷ 0x00 ∷ 0x00 ∷ []
+
+-- X puts its row at number 0
+abbrev rowOfX : Row
+rowOfX = opened 0x020000000000000E 0 5
+
+answer-to-x : receiveOf there x emptyTable ≡ Received.New valueOfX (headOf valueOfX) 34
+unfolding receiveBy under receivingOrder readingOrder outerOrder bodyOrder exchangeOrder tunnelOrder afterReading deliveryOrder admissionOrder answerOf messageOf exchangedBy addressOf total acknowledgementOf acknowledging writeOf writingOrder stray member greatest positionOf positionAfter isNewPosition accepts behindOf
+answer-to-x = arrival told-empty there x (are-bytes x refl) .0 ∙ refl
+
+table-after-x : tableOf emptyTable (arrives there x ∷ []) ≡ withRow emptyTable 0 rowOfX
+unfolding tableOf receiveTable tableBy messageOf exchangedBy addressOf freeOf
+table-after-x =
+    let none = none-there-none-found emptyTable 0x020000000000000E 0 (λ k l. ap (named 0x020000000000000E 0) (empty-row k)) in
+    let o = opens emptyTable 0x020000000000000E 0 5 (omega (arith, none)) in
+    let lowest : freeOf rows emptyTable ≡ 0 = least-is rows (λ i. isFree (rowOf emptyTable i)) 0 (omega arith) (λ k l. let z : ⊥ = omega arith in absurd z) (ap isFree (empty-row 0)) in
+    ap (λ (a : Received). tableAfter a emptyTable (rowFor emptyTable 0x020000000000000E 0) (rolledIn emptyTable 0x020000000000000E 0 5 .row)) answer-to-x
+    ∙ ap₂ (λ (i : ℕ) (r : Rolled). withRow emptyTable i (r .row)) (o .0 ∙ lowest) (o .1)
+
+-- After X the table is saved as this record.
+pub saved-after-x : savedBytes (tableOf emptyTable (arrives there x ∷ [])) ≡ saved
+unfolding recordsOf recordOf
+saved-after-x =
+    let t : List ℕ = withRow emptyTable 0 rowOfX in
+    let here : rowOf t 0 ≡ rowOfX = same-row emptyTable 0 rowOfX (omega arith) (record { key = omega arith; highest = omega arith; marks = omega arith }) in
+    let alone = kept-one rows inUse (rowOf t) 0 (omega arith) (ap inUse here) (λ k l n. ap inUse (other-row emptyTable 0 k rowOfX n ∙ empty-row k)) in
+    ap savedBytes table-after-x ∙ ap recordsOf (alone ∙ ap (λ (row : Row). row ∷ []) here)
+
+-- Restored from it, the empty table, to which X is new, takes X for a duplicate.
+pub x-after-its-restore : (answerAt emptyTable (arrives there x) ≡ ofArrival (Received.New valueOfX (headOf valueOfX) 34))
+    × (answerAt (tableOf emptyTable (restores saved ∷ [])) (arrives there x) ≡ ofArrival (Received.Duplicate valueOfX (headOf valueOfX) 34))
+unfolding bookOf bookAt restoreOf restoringOrder namedBefore firstBelow rowIn front restoredBook kept listOf marked bitAt receiveBy receivingOrder readingOrder outerOrder bodyOrder exchangeOrder tunnelOrder afterReading deliveryOrder admissionOrder answerOf messageOf exchangedBy addressOf total acknowledgementOf acknowledging writeOf writingOrder stray member greatest positionOf positionAfter isNewPosition accepts behindOf
+x-after-its-restore =
+    (ap ofArrival answer-to-x, history-from-the-empty-table (restores saved ∷ []) (are-bytes saved refl, tt) (arrives there x) (are-bytes x refl) .1 ∙ refl)
+
+-- The message after X, accepted after the save, is new again once the record is restored, and X is a duplicate.
+pub next-after-the-restore : answersOf emptyTable (arrives there x ∷ arrives there next ∷ restores saved ∷ arrives there next ∷ arrives there x ∷ [])
+    ≡ ofArrival (Received.New valueOfX (headOf valueOfX) 34)
+    ∷ ofArrival (Received.New (valueUnder 6) (headOf (valueUnder 6)) 34)
+    ∷ ofRestoring (Restored.Placed 1)
+    ∷ ofArrival (Received.New (valueUnder 6) (headOf (valueUnder 6)) 34)
+    ∷ ofArrival (Received.Duplicate valueOfX (headOf valueOfX) 34)
+    ∷ []
+unfolding answersBy bookAt restoreOf restoringOrder namedBefore firstBelow rowIn front restoredBook kept listOf marked bitAt receiveBy under receivingOrder readingOrder outerOrder bodyOrder exchangeOrder tunnelOrder afterReading deliveryOrder admissionOrder answerOf messageOf exchangedBy addressOf total acknowledgementOf acknowledging writeOf writingOrder stray member greatest positionOf positionAfter isNewPosition accepts behindOf
+next-after-the-restore =
+    history told-empty (arrives there x ∷ arrives there next ∷ restores saved ∷ arrives there next ∷ arrives there x ∷ [])
+    (are-bytes x refl, (are-bytes next refl, (are-bytes saved refl, (are-bytes next refl, (are-bytes x refl, tt))))) .0
+    ∙ refl
+
+-- a record of node 02..n with highest id 6 and these of the marks 1 to 8
+abbrev recordWith : ℕ → ℕ → List ℕ
+recordWith n marks =
+    0x52 ∷ 0x57
+    ∷ 0x02 ∷ 0x00 ∷ 0x00 ∷ 0x00 ∷ 0x00 ∷ 0x00 ∷ 0x00 ∷ n
+    ∷ 0x00 ∷ 0x00
+    ∷ 0x06 ∷ 0x00 ∷ 0x00 ∷ 0x00
+    ∷ marks ∷ 0x00 ∷ []
+
+-- X, one below the highest id of the record, is a duplicate where its mark is set in it, and new where it is not.
+pub mark-after-the-restore : answersOf emptyTable (restores (recordWith 0x0E 1) ∷ arrives there x ∷ restores (recordWith 0x0E 0) ∷ arrives there x ∷ [])
+    ≡ ofRestoring (Restored.Placed 1)
+    ∷ ofArrival (Received.Duplicate valueOfX (headOf valueOfX) 34)
+    ∷ ofRestoring (Restored.Placed 1)
+    ∷ ofArrival (Received.New valueOfX (headOf valueOfX) 34)
+    ∷ []
+unfolding answersBy bookAt restoreOf restoringOrder namedBefore firstBelow rowIn front restoredBook kept listOf marked bitAt receiveBy under receivingOrder readingOrder outerOrder bodyOrder exchangeOrder tunnelOrder afterReading deliveryOrder admissionOrder answerOf messageOf exchangedBy addressOf total acknowledgementOf acknowledging writeOf writingOrder stray member greatest positionOf positionAfter isNewPosition accepts behindOf
+mark-after-the-restore =
+    history told-empty (restores (recordWith 0x0E 1) ∷ arrives there x ∷ restores (recordWith 0x0E 0) ∷ arrives there x ∷ [])
+    (are-bytes (recordWith 0x0E 1) refl, (are-bytes x refl, (are-bytes (recordWith 0x0E 0) refl, (are-bytes x refl, tt)))) .0
+    ∙ refl
+
+-- A restore without a record of X's name ends its list, and X is new again.
+pub x-without-its-record : answersOf emptyTable (arrives there x ∷ restores (recordWith 0x0F 0) ∷ arrives there x ∷ [])
+    ≡ ofArrival (Received.New valueOfX (headOf valueOfX) 34)
+    ∷ ofRestoring (Restored.Placed 1)
+    ∷ ofArrival (Received.New valueOfX (headOf valueOfX) 34)
+    ∷ []
+unfolding answersBy bookAt restoreOf restoringOrder namedBefore firstBelow rowIn front restoredBook kept listOf marked bitAt receiveBy under receivingOrder readingOrder outerOrder bodyOrder exchangeOrder tunnelOrder afterReading deliveryOrder admissionOrder answerOf messageOf exchangedBy addressOf total acknowledgementOf acknowledging writeOf writingOrder stray member greatest positionOf positionAfter isNewPosition accepts behindOf
+x-without-its-record =
+    history told-empty (arrives there x ∷ restores (recordWith 0x0F 0) ∷ arrives there x ∷ []) (are-bytes x refl, (are-bytes (recordWith 0x0F 0) refl, (are-bytes x refl, tt))) .0
+    ∙ refl
+
+-- The table after the listing's example, saved and restored into the empty one, goes on: X is a duplicate, and the message after it is new.
+pub goes-on-after-the-example : answersOf (tableAt emptyTable (restores (savedBytes (tableOf emptyTable example)))) (arrives there x ∷ arrives there next ∷ [])
+    ≡ ofArrival (Received.Duplicate valueOfX (headOf valueOfX) 34) ∷ ofArrival (Received.New (valueUnder 6) (headOf (valueUnder 6)) 34) ∷ []
+unfolding answersBy bookOf bookAt receiveBy under receivingOrder readingOrder outerOrder bodyOrder exchangeOrder tunnelOrder afterReading deliveryOrder admissionOrder answerOf messageOf exchangedBy addressOf total acknowledgementOf acknowledging writeOf writingOrder stray member greatest positionOf positionAfter isNewPosition accepts behindOf
+goes-on-after-the-example =
+    restored-goes-on-as-saved example (are-bytes x refl, (are-bytes x refl, (are-bytes shortOne refl, tt))) (omega arith, (omega arith, (omega arith, tt))) emptyTable
+    (arrives there x ∷ arrives there next ∷ []) (are-bytes x refl, (are-bytes next refl, tt))
+    ∙ history (follows .2) (arrives there x ∷ arrives there next ∷ []) (are-bytes x refl, (are-bytes next refl, tt)) .0
+    ∙ refl

@@ -2,6 +2,10 @@
 pub mod Promises
 pub mod History
 pub mod InNumbers
-pub mod Kept
+pub mod Own
+pub mod Restoring
+pub mod SameRows
+pub mod SoundRows
+pub mod SoundTables
 pub mod Steps
 pub mod Told

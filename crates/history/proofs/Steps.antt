@@ -27,7 +27,7 @@ use Rattle.window.proofs.Accepting.{step-new}
 use Rattle.window.proofs.History.{Stands, stands-opened, stands-on, verdict-on, was-accepted}
 use Rattle.window.proofs.Promises.{gateway, name-stays, gateway-stray-bit}
 use Rattle.window.proofs.Rows.{fits-gateway}
-use Rattle.table.specs.Table.{rows, oneIf, freed, rowOf, withRow, isFree, findOf, freeOf}
+use Rattle.table.specs.Table.{rows, oneIf, freed, rowOf, withRow, isFree, findOf, freeOf, inUse}
 use Rattle.admission.specs.Admission.{noRow, rolledIn, answerOf, tableAfter, tableBy}
 use Rattle.reception.specs.Receiving.{Beside, senderOf, answerTo, receivingOrder, receiveOf, receiveTable}
 use Rattle.admission.specs.declared.answers.Received.{Received}
@@ -35,16 +35,16 @@ use Rattle.admission.specs.declared.answers.Received.the-variants as Received
 use Rattle.reception.specs.declared.answers.Removed.the-variants as Removed
 use Rattle.admission.specs.Admission as rcv
 use Rattle.reception.specs.Removing.{removeOf, removeTable}
-use Rattle.history.specs.History.{Book, Step, arrives, leaves, ofArrival, ofLeaving, answerAt, tableAt, isNew, joined, oneMore, fullFor, removedBy, under, receiveBy, answerBy, bookAfter, bookWithout, bookAt}
-use Rattle.history.specs.HandedIn.{inUse}
+use Rattle.history.specs.History.{Book, Step, arrives, leaves, restores, ofArrival, ofLeaving, answerAt, tableAt, isNew, joined, oneMore, fullFor, removedBy, under, receiveBy, answerBy, bookAfter, bookWithout, bookAt}
 use Rattle.history.specs.Telling.{Bytes, Told}
 use Rattle.reception.proofs.Cleared.{has-row}
 use Rattle.reception.proofs.WasRead.{new-of}
 use Rattle.table.proofs.Least.{least-holds}
 use Rattle.table.proofs.Words.{Narrow, other-row}
 use Rattle.admission.proofs.Places.{found, opens}
-use Rattle.history.proofs.Kept.{counts, all-kept}
+use Rattle.table.proofs.Kept.{counts, all-kept}
 use Rattle.history.proofs.Told.{named-node, named-is, named-not, named-other, g-same, changed, hits, is-open, is-shut, alone}
+use Rattle.history.proofs.Restoring.{restoring}
 
 -- ---- what a message comes to
 
@@ -142,11 +142,11 @@ module _ {t : List ℕ} {book : Book} (told : Told t book) (node key id : ℕ) (
 -- ---- one step
 
 -- where the bytes of a message are bytes its id and key id are so many bits wide
-id-low : (bytes : List ℕ) → AllBytes bytes → messageOf bytes .id < 2 ^ 32
+pub id-low : (bytes : List ℕ) → AllBytes bytes → messageOf bytes .id < 2 ^ 32
 unfolding messageOf exchangedBy addressOf
 id-low bytes all = omega (arith, byte-low all 2, byte-low all 3, byte-low all 4, byte-low all 5)
 
-key-low : (bytes : List ℕ) → AllBytes bytes → messageOf bytes .key < 2 ^ 16
+pub key-low : (bytes : List ℕ) → AllBytes bytes → messageOf bytes .key < 2 ^ 16
 unfolding messageOf exchangedBy addressOf
 key-low bytes all = go (eqb (bits (header bytes) 4 4) 1) _
   where
@@ -155,7 +155,7 @@ key-low bytes all = go (eqb (bits (header bytes) 4 4) 1) _
     go false at = omega arith
 
 module _ {t : List ℕ} {book : Book} (told : Told t book) where
-  arrival : (b : Beside) (bytes : List ℕ) → AllBytes bytes
+  pub arrival : (b : Beside) (bytes : List ℕ) → AllBytes bytes
       → (receiveOf b bytes t ≡ receiveBy book b bytes) × Told (receiveTable b bytes t) (bookAt book (arrives b bytes))
   unfolding receiveOf receiveBy receiveTable tableBy bookAt answerOf
   arrival b bytes all = (same, subst (λ (a : Received). Told (receiveTable b bytes t) (bookAfter a node key id book)) same (go (receiveOf b bytes t) refl))
@@ -223,3 +223,4 @@ module _ {t : List ℕ} {book : Book} (told : Told t book) where
   pub one-step : (s : Step) → Bytes s → (answerAt t s ≡ answerBy book s) × Told (tableAt t s) (bookAt book s)
   one-step (arrives b bytes) all = let w = arrival b bytes all in (ap ofArrival (w .0), w .1)
   one-step (leaves node key) u = let w = leaving node key in (ap ofLeaving (w .0), w .1)
+  one-step (restores bytes) all = (refl, restoring told bytes all)

@@ -11,13 +11,12 @@ use Rattle.message.proofs.Logic.{clash}
 use Rattle.window.specs.Rows.{marksHeld}
 use Rattle.window.specs.declared.Row.{Row}
 use Rattle.window.proofs.History.{Stands}
-use Rattle.table.specs.Table.{rows, oneIf, freed, rowOf, withRow, named, findOf}
+use Rattle.table.specs.Table.{rows, oneIf, freed, rowOf, withRow, named, findOf, kept, inUse}
 use Rattle.history.specs.History.{Book, under}
-use Rattle.history.specs.HandedIn.{kept, inUse}
 use Rattle.history.specs.Telling.{Stand, Told}
 use Rattle.table.proofs.Least.{least-holds, least-misses}
 use Rattle.table.proofs.Words.{Narrow, length-put, other-row, same-row}
-use Rattle.history.proofs.Kept.{Apart, kept-same, kept-none, Split, split, counts}
+use Rattle.table.proofs.Kept.{Apart, kept-same, kept-none, Split, split, counts}
 
 -- ---- names
 
@@ -39,7 +38,7 @@ pub named-not : (node key : ℕ) (row : Row) → row .used ≡ false → named n
 named-not node key row x = ap (λ (a : Bool). a && eqb (row .node) node && eqb (row .key) key) x
 
 -- two names
-same-name : (n k node key : ℕ) → (eqb n node && eqb k key) ≡ true → (n ≡ node) × (k ≡ key)
+pub same-name : (n k node key : ℕ) → (eqb n node && eqb k key) ≡ true → (n ≡ node) × (k ≡ key)
 same-name n k node key e = go (eqb n node) (eqb k key) refl refl e
   where
     go : (a b : Bool) → eqb n node ≡ a → eqb k key ≡ b → (a && b) ≡ true → (n ≡ node) × (k ≡ key)

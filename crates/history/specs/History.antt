@@ -1,47 +1,55 @@
--- The history of a table: messages received and rows removed, and the positions that the rule finds new under each name. The book below
--- is built from the history alone. It holds full lists of positions and reads no row, no mark and no shift. Two numbers it takes over: `rows`,
--- the 32 of refusal 20, and `marksHeld`, the 15 of the rule of positions. Assumes nothing.
-use Prim.Native.Nat.{ℕ, _+_, _-_, _*_}
+-- The history of a table: messages received, rows removed and saved bytes restored, and the positions that the rule finds new under each
+-- name. The book below is built from the history alone. It holds full lists of positions and reads no row, no mark and no shift of the table.
+-- Two numbers it takes over: `rows`, the 32 of refusal 20, and `marksHeld`, the 15 of the rule of positions. A restore that is taken replaces all
+-- lists: a restored name's list starts with what its record says, the position of the highest id and those of the marks, and holds nothing else of what
+-- was accepted before. Assumes nothing.
+use Prim.Native.Nat.{ℕ, _+_, _-_}
 use mathlib.Core.Bool.{Bool, true, false, _&&_, cond}
-use mathlib.Core.List.{List, [], _∷_}
+use mathlib.Core.List.{List, [], _∷_, map}
 use lib.Dec.{eqb, leb}
 use Rattle.message.specs.Order.{first}
 use Rattle.message.specs.Value.{messageOf}
 use Rattle.message.specs.Answers.{refusal, headOf}
 use Rattle.window.specs.Rule.{positionAfter, accepts}
-use Rattle.window.specs.Rows.{marksHeld, behindOf}
+use Rattle.window.specs.Rows.{marksHeld, behindOf, listOf}
 use Rattle.window.specs.History.{verdictOf}
 use Rattle.admission.specs.declared.answers.Received.{Received}
 use Rattle.admission.specs.declared.answers.Received.the-variants as Received
 use Rattle.reception.specs.declared.answers.Removed.{Removed}
 use Rattle.reception.specs.declared.answers.Removed.the-variants as Removed
-use Rattle.table.specs.Table.{rows}
-use Rattle.writer.specs.Acknowledgement.{zeros}
+use Rattle.records.specs.declared.answers.Restored.{Restored}
+use Rattle.records.specs.declared.answers.Restored.the-variants as Restored
+use Rattle.table.specs.Table.{rows, named, kept}
 use Rattle.admission.specs.Admission.{answerOf}
 use Rattle.reception.specs.Receiving.{Beside, senderOf, answerTo, receivingOrder, receiveOf, receiveTable}
 use Rattle.reception.specs.Removing.{removeOf, removeTable}
+use Rattle.records.specs.Restoring.{recordCount, rowFrom, restoreOf, restoreTable}
 
--- a step: a message arrives, with all that comes with it, or a name is removed
+-- a step: a message arrives, with all that comes with it, a name is removed, or saved bytes are restored
 pub data Step : Type 0 where
   arrives : Beside → List ℕ → Step
   leaves : ℕ → ℕ → Step
+  restores : List ℕ → Step
 
 -- its answer
 pub data Answer : Type 0 where
   ofArrival : Received → Answer
   ofLeaving : Removed → Answer
+  ofRestoring : Restored → Answer
 
 -- ---- by the table
 
--- the answer to a step: what the contracts of `receive` and `remove` say
+-- the answer to a step: what the contracts of `receive`, `remove` and `restore` say
 abbrev pub answerAt : List ℕ → Step → Answer
 answerAt t (arrives b bytes) = ofArrival (receiveOf b bytes t)
 answerAt t (leaves node key) = ofLeaving (removeOf t node key)
+answerAt t (restores bytes) = ofRestoring (restoreOf bytes)
 
 -- the table after a step, by the same contracts
 abbrev pub tableAt : List ℕ → Step → List ℕ
 tableAt t (arrives b bytes) = receiveTable b bytes t
 tableAt t (leaves node key) = removeTable t node key
+tableAt t (restores bytes) = restoreTable bytes t
 
 -- the answers to steps, one after the other
 unfoldable pub answersOf : List ℕ → List Step → List Answer
@@ -52,10 +60,6 @@ answersOf t (s ∷ steps) = answerAt t s ∷ answersOf (tableAt t s) steps
 unfoldable pub tableOf : List ℕ → List Step → List ℕ
 tableOf t [] = t
 tableOf t (s ∷ steps) = tableOf (tableAt t s) steps
-
--- the empty table
-abbrev pub emptyTable : List ℕ
-emptyTable = zeros (3 * rows)
 
 -- ---- by the book
 
@@ -105,10 +109,11 @@ receiveBy book b bytes =
     let those = book .lists (senderOf (b .link) m) (m .key) in
     answerOf (first (receivingOrder b bytes (fullFor those (book .count)))) (verdictOf (isNew (m .key) those (m .id))) (answerTo b m) m (headOf m)
 
--- the answer to a step
+-- the answer to a step; that to a restore goes by the bytes alone, so it is the contract's own, and what it refuses is proved in `records`
 abbrev pub answerBy : Book → Step → Answer
 answerBy book (arrives b bytes) = ofArrival (receiveBy book b bytes)
 answerBy book (leaves node key) = ofLeaving (removedBy (book .lists node key))
+answerBy book (restores bytes) = ofRestoring (restoreOf bytes)
 
 -- only a new message joins a list
 abbrev pub bookAfter : Received → ℕ → ℕ → ℕ → Book → Book
@@ -122,11 +127,25 @@ abbrev pub bookWithout : List (List ℕ) → ℕ → ℕ → Book → Book
 bookWithout [] node key book = book
 bookWithout (ps ∷ rest) node key book = record { lists = under (book .lists) node key rest; count = book .count - 1 }
 
+-- the book that saved bytes say: one list for each record, under its name
+unfoldable pub restoredBook : List ℕ → Book
+restoredBook bytes =
+    record {
+      lists = λ node key. map (listOf marksHeld) (kept (recordCount bytes) (named node key) (rowFrom bytes));
+      count = recordCount bytes;
+    }
+
+-- it takes the place of the old one, all of which stays where restoring refuses
+abbrev pub bookRestored : Restored → Book → Book → Book
+bookRestored (Restored.Placed n) new old = new
+bookRestored (Restored.Refused r) new old = old
+
 -- the book after a step
 unfoldable pub bookAt : Book → Step → Book
 bookAt book (arrives b bytes) =
     bookAfter (receiveBy book b bytes) (senderOf (b .link) (messageOf bytes)) (messageOf bytes .key) (messageOf bytes .id) book
 bookAt book (leaves node key) = bookWithout (book .lists node key) node key book
+bookAt book (restores bytes) = bookRestored (restoreOf bytes) (restoredBook bytes) book
 
 -- the answers to steps, one after the other
 unfoldable pub answersBy : Book → List Step → List Answer

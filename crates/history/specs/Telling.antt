@@ -1,5 +1,5 @@
 -- What the theorem over histories says: what steps are taken, when a table tells a book, and what a history then comes to. Assumes nothing.
-use Prim.Native.Nat.{ℕ}
+use Prim.Native.Nat.{ℕ, _^_, _<_}
 use mathlib.Core.Path.{_≡_}
 use mathlib.Core.List.{List, [], _∷_}
 use lib.ListN.{length}
@@ -8,21 +8,32 @@ use Rattle.window.specs.Rows.{marksHeld}
 use Rattle.window.specs.History.{Distinct}
 use Rattle.window.specs.declared.Row.{Row}
 use Rattle.window.proofs.History.{Stands}
-use Rattle.table.specs.Table.{rows, rowOf, named}
-use Rattle.history.specs.History.{Step, arrives, leaves, answerAt, tableAt, answersOf, tableOf, Book, answerBy, bookAt, answersBy, bookOf}
-use Rattle.history.specs.HandedIn.{kept, inUse}
+use Rattle.table.specs.Table.{rows, rowOf, named, kept, rowsInUse}
+use Rattle.history.specs.History.{Step, arrives, leaves, restores, answerAt, tableAt, answersOf, tableOf, Book, answerBy, bookAt, answersBy, bookOf}
 
 -- ---- the steps that are taken
 
--- the bytes of a message are bytes; a removal may name any name
+-- the bytes of a message are bytes, and so are saved ones; a removal may name any name
 abbrev pub Bytes : Step → Type 0
 Bytes (arrives b bytes) = AllBytes bytes
 Bytes (leaves node key) = Unit {0}
+Bytes (restores bytes) = AllBytes bytes
 
 -- every step of a history is such a one
 abbrev pub AllOf : List Step → Type 0
 AllOf [] = Unit {0}
 AllOf (s ∷ steps) = Bytes s × AllOf steps
+
+-- the link's node is a number of eight bytes
+abbrev pub Links : Step → Type 0
+Links (arrives b bytes) = b .link < 2 ^ 64
+Links (leaves node key) = Unit {0}
+Links (restores bytes) = Unit {0}
+
+-- that of every message is
+abbrev pub AllLinks : List Step → Type 0
+AllLinks [] = Unit {0}
+AllLinks (s ∷ steps) = Links s × AllLinks steps
 
 -- ---- a table tells a book
 
@@ -37,7 +48,7 @@ Stand key (row ∷ rs) (ps ∷ pss) = Stands marksHeld key row ps × Stand key r
 pub record Told (t : List ℕ) (book : Book) : Type 0 where
   pub size : length t ≡ 96
   pub names : (node key : ℕ) → Stand key (kept rows (named node key) (rowOf t)) (book .lists node key)
-  pub count : length (kept rows inUse (rowOf t)) ≡ book .count
+  pub count : length (rowsInUse t) ≡ book .count
 
 -- what a history from a table comes to, the table's book being given: all answers are the book's, so is the next one, and the table tells
 -- the book, before the next step and after it

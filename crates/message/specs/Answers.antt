@@ -34,7 +34,7 @@ abbrev pub outerReading : ℕ → ℕ → ℕ → OuterReading
 outerReading zero start len = OuterReading.Protected start len
 outerReading (suc n) start len = OuterReading.Refused (refusal (suc n))
 
--- writing and framing: the length, or the refusal
+-- writing, framing and saving: the length, or the refusal
 abbrev pub writing : ℕ → ℕ → Writing
 writing zero len = Writing.Written len
 writing (suc n) len = Writing.Refused (refusal (suc n))
@@ -52,7 +52,7 @@ abbrev pub writingNumber : Writing → ℕ
 writingNumber (Writing.Written len) = 0
 writingNumber (Writing.Refused r) = r .number
 
--- the buffer after writing or framing: its first bytes replaced, as many as are written, or nothing changed
+-- the buffer after writing, framing or saving: its first bytes replaced, as many as are written, or nothing changed
 abbrev pub bufferAfter : Writing → List ℕ → List ℕ → List ℕ
 bufferAfter (Writing.Written n) bytes old = bytes ++ drop n old
 bufferAfter (Writing.Refused r) bytes old = old

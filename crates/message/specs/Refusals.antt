@@ -29,9 +29,13 @@ oldTunnel version tunnelled = tunnelled && eqb version 1
 abbrev pub badEncrypt : ℕ → Bool
 badEncrypt encrypt = not (eqb encrypt 0 || eqb encrypt 1)
 
+-- a key id of a type other than 1 and 2
+abbrev pub badKeyType : ℕ → Bool
+badKeyType key = not (eqb (bits key 12 4) 1 || eqb (bits key 12 4) 2)
+
 -- 7: the key type of an encrypted message
 abbrev pub badKey : ℕ → ℕ → Bool
-badKey encrypt key = eqb encrypt 1 && not (eqb (bits key 12 4) 1 || eqb (bits key 12 4) 2)
+badKey encrypt key = eqb encrypt 1 && badKeyType key
 
 -- a node that is nobody's: all zero or all ones
 abbrev pub nobody : ℕ → Bool

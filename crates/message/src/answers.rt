@@ -1,7 +1,7 @@
 // What reading, writing and the stream answer.
 use crate::value::Message;
 
-// Why a message, a value or a buffer was refused, by its number.
+// Why a message, a value, a buffer or a saved table was refused, by its number.
 pub struct Refusal {
     pub number: u8,
 }
@@ -51,6 +51,14 @@ impl Refusal {
     pub const NO_ROW: u8 = 21;
     // The acknowledgement cannot be written, for a reason other than its room.
     pub const UNWRITABLE: u8 = 22;
+    // Saved rows: a record whose mark is not 52 57.
+    pub const SAVED_MARK: u8 = 23;
+    // Saved rows: a length that is no multiple of 18, or more than 32 records.
+    pub const SAVED_LENGTH: u8 = 24;
+    // Saved rows: a node all zero or all ones, a key id neither 0 nor of type 1 or 2, or bit 15 set.
+    pub const SAVED_ROW: u8 = 25;
+    // Saved rows: a name twice.
+    pub const SAVED_TWICE: u8 = 26;
 }
 
 // What stands before the payload or the packet, beside the fields: the bits I, A and R as the wire has
@@ -72,7 +80,7 @@ pub enum OuterReading {
     Refused(Refusal),
 }
 
-// Of writing and framing: how many bytes were written, or the refusal.
+// Of writing, framing and saving: how many bytes were written, or the refusal.
 pub enum Writing {
     Written(usize),
     Refused(Refusal),

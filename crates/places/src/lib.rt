@@ -25,6 +25,12 @@ pub const CHECK_BYTES: usize = 20;
 // The length of the longest acknowledgement.
 pub const ACKNOWLEDGEMENT_BYTES: usize = 56;
 
+// The length of the record of a saved row.
+pub const RECORD_BYTES: usize = 18;
+
+// The length of the records of all rows.
+pub const SAVED_BYTES: usize = 576;
+
 // How many places the fields of a message take.
 pub const FIELDS: usize = 16;
 

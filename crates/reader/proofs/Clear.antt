@@ -42,11 +42,12 @@ tunnel-clear : (bytes : List ℕ) (m : Message) → noneOf (tunnelOrder bytes m)
 unfolding tunnelOrder
 tunnel-clear bytes m h = record { version = eqb-true _ _ (not-false _ (h .0)); packet = h .1 .0 }
 
-none-left : (a b : List Condition) → noneOf (a ++ b) → noneOf a
+-- where none of two orders' conditions holds, none of either's does
+pub none-left : (a b : List Condition) → noneOf (a ++ b) → noneOf a
 none-left [] b h = tt
 none-left (n when t ∷ a) b h = (h .0, none-left a b (h .1))
 
-none-right : (a b : List Condition) → noneOf (a ++ b) → noneOf b
+pub none-right : (a b : List Condition) → noneOf (a ++ b) → noneOf b
 none-right [] b h = h
 none-right (n when t ∷ a) b h = none-right a b (h .1)
 

@@ -2,6 +2,7 @@
 pub mod Promises
 pub mod Found
 pub mod Ids
+pub mod Kept
 pub mod Least
 pub mod Outcomes
 pub mod Words

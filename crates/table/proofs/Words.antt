@@ -1,16 +1,16 @@
 -- A row that was put is read back, and every other row is as it was. Assumes nothing.
-use Prim.Native.Nat.{ℕ, _+_, _*_, _/_, _%_, _^_, _≤_, _<_}
+use Prim.Native.Nat.{ℕ, zero, suc, _+_, _*_, _/_, _%_, _^_, _≤_, _<_}
 use mathlib.Core.Path.{_≡_, refl, sym, ap, ap₂, _∙_}
 use mathlib.Core.Bool.{Bool, true, false, _&&_, cond}
 use mathlib.Core.List.{List}
 use native.Mathlib.Omega.{arith}
 use borrow.Author.Tests.{eq-eqb, ne-eqb, eqb-true, eqb-false, lt-ltb, le-ltb}
-use lib.ListN.{length, getD, set, length-set}
+use lib.ListN.{length, getD, set, replicate, length-set}
 use lib.Seq.{getD-set-same, getD-set-other}
 use lib.Dec.{eqb}
 use Rattle.message.proofs.Logic.{clash}
 use Rattle.window.specs.declared.Row.{Row}
-use Rattle.table.specs.Table.{rows, oneIf, freed, rowOf, withRow, rowAt, putAt, named, rowUnder}
+use Rattle.table.specs.Table.{rows, emptyTable, oneIf, freed, rowOf, withRow, rowAt, putAt, named, rowUnder}
 
 -- the row of three words
 abbrev pub fields : ℕ → ℕ → ℕ → Row
@@ -139,3 +139,15 @@ same-row t i row l s =
     let c : getD (set two (3 * i + 2) (row .marks)) (3 * i + 2) 0 ≡ row .marks =
     getD-set-same two (3 * i + 2) (row .marks) 0 (omega (arith, length-set t (3 * i) (row .node), length-set one (3 * i + 1) y)) in
     (λ k. fields (a k) (b k) (c k)) ∙ words-say row s
+
+-- ---- the empty table
+
+pub zero-word : (n k : ℕ) → getD (replicate {A = ℕ} n 0) k 0 ≡ 0
+zero-word zero k = refl
+zero-word (suc n) zero = refl
+zero-word (suc n) (suc k) = zero-word n k
+
+-- every row of it is free and zero
+pub empty-row : (k : ℕ) → rowOf emptyTable k ≡ freed
+unfolding rowOf
+empty-row k = let z : (j : ℕ) → getD emptyTable j 0 ≡ 0 = zero-word 96 in λ i. fields (z (3 * k) i) (z (3 * k + 1) i) (z (3 * k + 2) i)

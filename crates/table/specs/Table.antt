@@ -1,14 +1,18 @@
--- The table: rows in words, three to a row, and the search for one ("Rows and verdicts"). Assumes nothing.
+-- The table: rows in words, three to a row, the search for one, and those in use ("Rows and verdicts"). Assumes nothing.
 use Prim.Native.Nat.{ℕ, zero, suc, _+_, _*_, _/_, _%_, _^_}
 use mathlib.Core.Bool.{Bool, true, false, not, _&&_, cond}
-use mathlib.Core.List.{List}
-use lib.ListN.{getD, set}
+use mathlib.Core.List.{List, [], _∷_}
+use lib.ListN.{getD, set, replicate}
 use lib.Dec.{eqb, ltb}
 use Rattle.window.specs.declared.Row.{Row}
 
 -- how many rows the gateway has
 abbrev pub rows : ℕ
 rows = 32
+
+-- the empty table: every word is zero
+abbrev pub emptyTable : List ℕ
+emptyTable = replicate (3 * rows) 0
 
 -- 1 for true, 0 for false
 abbrev pub oneIf : Bool → ℕ
@@ -71,3 +75,18 @@ findOf n t node key = firstBelow n (λ i. named node key (rowOf t i))
 -- of n rows, the lowest-numbered free one, or n
 unfoldable pub freeOf : ℕ → List ℕ → ℕ
 freeOf n t = firstBelow n (λ i. isFree (rowOf t i))
+
+-- ---- the rows of which something holds
+
+-- of the rows f 0 to f (n - 1) those of which p holds, in their order
+unfoldable pub kept : ℕ → (Row → Bool) → (ℕ → Row) → List Row
+kept zero p f = []
+kept (suc n) p f = cond (p (f 0)) (f 0 ∷ kept n p (λ k. f (suc k))) (kept n p (λ k. f (suc k)))
+
+-- a row in use, under whatever name
+abbrev pub inUse : Row → Bool
+inUse row = row .used
+
+-- the rows of a table that are in use, in their order
+abbrev pub rowsInUse : List ℕ → List Row
+rowsInUse t = kept rows inUse (rowOf t)

@@ -23,7 +23,7 @@ pub all-of : (l : List ℕ) → ((i : ℕ) → getD l i 0 < 256) → AllBytes l
 all-of [] h = none
 all-of (b ∷ l) h = more (h 0) (all-of l (λ i. h (suc i)))
 
-all-append : {a b : List ℕ} → AllBytes a → AllBytes b → AllBytes (a ++ b)
+pub all-append : {a b : List ℕ} → AllBytes a → AllBytes b → AllBytes (a ++ b)
 all-append none q = q
 all-append (more h p) q = more h (all-append p q)
 

@@ -2,14 +2,13 @@
 use Prim.Native.Nat.{ℕ, zero, suc, _+_, _≤_, _<_}
 use mathlib.Core.Path.{_≡_, refl, sym, ap, ap₂, _∙_}
 use mathlib.Core.Bool.{Bool, true, false, not, cond}
-use mathlib.Core.List.{List, [], _∷_}
+use mathlib.Core.List.{List, [], _∷_, _++_}
 use native.Mathlib.Omega.{arith}
 use borrow.Author.Tests.{le-leb, lt-leb, leb-true, leb-false}
 use lib.Dec.{leb}
 use lib.ListN.{length}
 use Rattle.window.specs.declared.Row.{Row}
-use Rattle.table.specs.Table.{oneIf, firstBelow}
-use Rattle.history.specs.HandedIn.{kept}
+use Rattle.table.specs.Table.{oneIf, firstBelow, kept}
 
 -- the same rows but for number i
 abbrev pub Apart : ℕ → (ℕ → Row) → (ℕ → Row) → Type 0
@@ -122,3 +121,76 @@ all-kept (suc n) p f = go (p (f 0)) (all-kept n p (λ k. f (suc k))) (kept-most 
         → leb (suc n) (cond (not a) 0 (suc (firstBelow n (λ k. not (p (f (suc k))))))) ≡ leb (suc n) (length (cond a (f 0 ∷ kept n p (λ k. f (suc k))) (kept n p (λ k. f (suc k)))))
     go true e l = leb-suc n _ ∙ e ∙ sym (leb-suc n _)
     go false e l = lt-leb (suc n) 0 (omega arith) ∙ sym (lt-leb (suc n) (length (kept n p (λ k. f (suc k)))) (omega arith))
+
+-- ---- a loop that goes through the rows, from 0 up
+
+-- one more row: it is the last of them, if it holds of it
+pub kept-next : (n : ℕ) (p : Row → Bool) (f : ℕ → Row) → kept (suc n) p f ≡ kept n p f ++ cond (p (f n)) (f n ∷ []) []
+unfolding kept
+kept-next zero p f = refl
+kept-next (suc n) p f = go (p (f 0)) (kept-next n p (λ k. f (suc k)))
+  where
+    more : List Row
+    more = cond (p (f (suc n))) (f (suc n) ∷ []) []
+
+    go : (b : Bool) → kept (suc n) p (λ k. f (suc k)) ≡ kept n p (λ k. f (suc k)) ++ more
+        → cond b (f 0 ∷ kept (suc n) p (λ k. f (suc k))) (kept (suc n) p (λ k. f (suc k)))
+        ≡ cond b (f 0 ∷ kept n p (λ k. f (suc k))) (kept n p (λ k. f (suc k))) ++ more
+    go true e = ap (λ (rs : List Row). f 0 ∷ rs) e
+    go false e = e
+
+-- ---- rows that are told by the first of them
+
+-- the same first rows, the same of them
+pub kept-alike : (n : ℕ) (p : Row → Bool) (f g : ℕ → Row) → ((k : ℕ) → k < n → g k ≡ f k) → kept n p g ≡ kept n p f
+unfolding kept
+kept-alike zero p f g s = refl
+kept-alike (suc n) p f g s =
+    ap₂ (λ (r : Row) (rs : List Row). cond (p r) (r ∷ rs) rs) (s 0 (omega arith)) (kept-alike n p (λ k. f (suc k)) (λ k. g (suc k)) (λ k l. s (suc k) (omega arith)))
+
+-- where it holds of none from number m on, they are those before it
+pub kept-front : (n m : ℕ) (p : Row → Bool) (f : ℕ → Row) → m ≤ n → ((k : ℕ) → m ≤ k → k < n → p (f k) ≡ false) → kept n p f ≡ kept m p f
+unfolding kept
+kept-front zero zero p f l h = refl
+kept-front zero (suc m) p f l h = let z : ⊥ = omega arith in absurd z
+kept-front (suc n) zero p f l h = kept-none (suc n) p f (λ k g. h k (omega arith) g)
+kept-front (suc n) (suc m) p f l h =
+    ap (λ (rs : List Row). cond (p (f 0)) (f 0 ∷ rs) rs) (kept-front n m p (λ k. f (suc k)) (omega arith) (λ k a b. h (suc k) (omega arith) (omega arith)))
+
+-- where it holds of one only, that is all
+pub kept-one : (n : ℕ) (p : Row → Bool) (f : ℕ → Row) (i : ℕ) → i < n → p (f i) ≡ true → ((k : ℕ) → k < n → (k ≡ i → ⊥) → p (f k) ≡ false) → kept n p f ≡ f i ∷ []
+unfolding kept
+kept-one zero p f i l e h = let z : ⊥ = omega arith in absurd z
+kept-one (suc n) p f zero l e h =
+    first-in n p f e ∙ ap (λ (rs : List Row). f 0 ∷ rs) (kept-none n p (λ k. f (suc k)) (λ k g. h (suc k) (omega arith) (λ z. omega arith)))
+kept-one (suc n) p f (suc i) l e h =
+    first-out n p f (h 0 (omega arith) (λ z. omega arith))
+    ∙ kept-one n p (λ k. f (suc k)) i (omega arith) e (λ k g m. h (suc k) (omega arith) (λ z. m (omega arith)))
+
+-- where it holds of all, there are as many as rows
+pub kept-every : (n : ℕ) (p : Row → Bool) (f : ℕ → Row) → ((k : ℕ) → k < n → p (f k) ≡ true) → length (kept n p f) ≡ n
+unfolding kept
+kept-every zero p f h = refl
+kept-every (suc n) p f h = ap length (first-in n p f (h 0 (omega arith))) ∙ ap suc (kept-every n p (λ k. f (suc k)) (λ k l. h (suc k) (omega arith)))
+
+-- where it holds of one there is one, and where of two there are two
+kept-some : (n : ℕ) (p : Row → Bool) (f : ℕ → Row) (i : ℕ) → i < n → p (f i) ≡ true → 1 ≤ length (kept n p f)
+unfolding kept
+kept-some zero p f i l e = let z : ⊥ = omega arith in absurd z
+kept-some (suc n) p f zero l e = omega (arith, ap length (first-in n p f e))
+kept-some (suc n) p f (suc i) l e = go (p (f 0)) (kept-some n p (λ k. f (suc k)) i (omega arith) e)
+  where
+    go : (b : Bool) → 1 ≤ length (kept n p (λ k. f (suc k))) → 1 ≤ length (cond b (f 0 ∷ kept n p (λ k. f (suc k))) (kept n p (λ k. f (suc k))))
+    go true h = omega arith
+    go false h = h
+
+pub kept-two : (n : ℕ) (p : Row → Bool) (f : ℕ → Row) (i : ℕ) → i < n → (j : ℕ) → j < i → p (f j) ≡ true → p (f i) ≡ true → 2 ≤ length (kept n p f)
+unfolding kept
+kept-two zero p f i l j m d e = let z : ⊥ = omega arith in absurd z
+kept-two (suc n) p f zero l j m d e = let z : ⊥ = omega arith in absurd z
+kept-two (suc n) p f (suc i) l zero m d e = omega (arith, ap length (first-in n p f d), kept-some n p (λ k. f (suc k)) i (omega arith) e)
+kept-two (suc n) p f (suc i) l (suc j) m d e = go (p (f 0)) (kept-two n p (λ k. f (suc k)) i (omega arith) j (omega arith) d e)
+  where
+    go : (b : Bool) → 2 ≤ length (kept n p (λ k. f (suc k))) → 2 ≤ length (cond b (f 0 ∷ kept n p (λ k. f (suc k))) (kept n p (λ k. f (suc k))))
+    go true h = omega arith
+    go false h = h

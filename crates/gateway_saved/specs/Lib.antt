@@ -1,0 +1,2 @@
+-- What the contracts of `gateway_saved` cite.
+pub mod Saved

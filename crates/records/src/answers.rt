@@ -1,0 +1,8 @@
+// What restoring answers.
+use message::Refusal;
+
+// How many rows were placed, or the refusal.
+pub enum Restored {
+    Placed(usize),
+    Refused(Refusal),
+}

@@ -1,0 +1,2 @@
+-- What the contracts of `restoring` cite.
+pub mod Faults
