@@ -1,16 +1,18 @@
 -- What the functions of one record use: its front, whole or not, and what makes a row bad. Assumes nothing.
-use Prim.Native.Nat.{ℕ, _/_, _%_, _^_, _≤_, _<_}
+use Prim.Native.Nat.{ℕ, _+_, _-_, _*_, _/_, _%_, _^_, _≤_, _<_}
 use mathlib.Core.Path.{_≡_, refl, sym, ap, _∙_}
 use mathlib.Core.Bool.{Bool, true, false, not, _&&_, _||_, cond}
 use mathlib.Core.List.{List}
 use native.Mathlib.Omega.{arith}
 use borrow.Author.Tests.{le-leb, lt-leb, leb-true, leb-false, eq-eqb, ne-eqb}
 use lib.Dec.{eqb, leb}
-use lib.ListN.{length}
+use lib.ListN.{length, take, drop, length-drop}
+use lib.Seq.{length-take-le}
 use Rattle.message.specs.Refusals.{nobody, badKeyType}
 use Rattle.window.specs.Rule.{bitAt}
 use Rattle.window.specs.declared.Row.{Row}
 use Rattle.table.specs.Table.{freed}
+use Rattle.records.specs.Restoring.{recordCount, recordAt, rowFrom}
 use Rattle.records.specs.Records.{recordBytes, rowIn, frontRow, badRow}
 
 pub front-row : (bytes : List ℕ) → recordBytes ≤ length bytes → frontRow bytes ≡ rowIn bytes
@@ -70,3 +72,16 @@ module _ (row : Row) (fits : row .marks < 2 ^ 16) where
         both : (z : Bool) → (not z && true) ≡ not z
         both true = refl
         both false = refl
+
+-- ---- a record of several
+
+-- the part that code takes is the record
+pub record-part : (bytes : List ℕ) (i : ℕ) → take (18 * i + 18 - 18 * i) (drop (18 * i) bytes) ≡ recordAt bytes i
+record-part bytes i = let w : 18 * i + 18 - 18 * i ≡ 18 = omega arith in ap (λ (n : ℕ). take n (drop (18 * i) bytes)) w
+
+-- and it is whole
+pub record-row : (bytes : List ℕ) (i : ℕ) → i < recordCount bytes → frontRow (take (18 * i + 18 - 18 * i) (drop (18 * i) bytes)) ≡ rowFrom bytes i
+record-row bytes i l =
+    let k = length-drop (18 * i) bytes in
+    let n = length-take-le 18 (drop (18 * i) bytes) (omega (arith, k, l)) in
+    ap frontRow (record-part bytes i) ∙ front-row (recordAt bytes i) (omega (arith, n))

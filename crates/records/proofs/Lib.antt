@@ -2,7 +2,6 @@
 pub mod Promises
 pub mod Conditions
 pub mod Decided
-pub mod Filled
 pub mod Fronts
 pub mod InNumbers
 pub mod Outcomes

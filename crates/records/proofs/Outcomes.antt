@@ -1,4 +1,4 @@
--- Only one outcome fits each public contract: two that its clause allows are equal, what is lent included.
+-- Only one outcome fits each public contract: two that its clause allows are equal.
 -- The laws are stated over the clauses themselves, as the source has them. Assumes nothing.
 use mathlib.Core.Path.{_≡_, sym, _∙_}
 use Prim.Native.Nat.{ℕ}
@@ -10,24 +10,17 @@ use prog.Wp.{Heap}
 use ghost.Atoms.{Atoms}
 use contract.Monad.{Fun, conj, fact}
 use contract.Lifetimes.{Lfts}
-use denote.Ref.{RefT, now}
+use denote.Ref.{RefT}
 use denote.Triple.Clauses.{AtExit}
 use mathlib.Core.Bool.{Bool}
 use mathlib.Core.List.{List}
 use Rattle.window.specs.declared.Row.{Row}
 use Rattle.wire.proofs.One.{both}
-use Rattle.records.proofs.put_record as putting
 use Rattle.records.proofs.row_in as reading
 use Rattle.records.proofs.wrong_mark as mark
 use Rattle.records.proofs.bad_row as row
 
 module _ {M : Type 1} (𝓤 : URA M) (H : Heap 𝓤) (A : Atoms 𝓤) (at-mem : Memory → SProp 𝓤) (run : Routine → Fun 𝓤) where
-  -- `put_record` leaves one slice
-  pub one-put-record : (κs : Lfts 1) (out : RefT (List ℕ)) (this : Row) (r s : Unit {0}) (x y : AtExit putting.ended κs)
-      → let allows : Unit {0} → AtExit putting.ended κs → SProp 𝓤 = λ v e. putting.clauses 𝓤 H A at-mem run κs (out, (this, tt)) .ensures tt v e in
-      ent 𝓤 (conj 𝓤 (allows r x) (allows s y)) (fact 𝓤 (now (x .0) ≡ now (y .0)))
-  one-put-record κs out this r s x y = both 𝓤 _ _ _ (λ e f. e ∙ sym f)
-
   -- `row_in` gives one row
   pub one-row-in : (κs : Lfts 1) (bytes : RefT (List ℕ)) (r s : Row) (x y : AtExit reading.ended κs)
       → let allows : Row → AtExit reading.ended κs → SProp 𝓤 = λ v e. reading.clauses 𝓤 H A at-mem run κs (bytes, tt) .ensures tt v e in

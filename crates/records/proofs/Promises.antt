@@ -6,7 +6,7 @@ pub use Rattle.records.proofs.SaveRestore.{save-after-restore, restore-
 -- again. Bit 15 of the marks is saved as zero.
 pub use Rattle.records.proofs.Records.{length-record, bytes-of-record, mark-of-record, marks-of-record, row-of-record, record-of-row}
 -- Only one outcome fits each public function.
-pub use Rattle.records.proofs.Outcomes.{one-put-record, one-row-in, one-wrong-mark, one-bad-row}
+pub use Rattle.records.proofs.Outcomes.{one-row-in, one-wrong-mark, one-bad-row}
 -- Saved bytes are 18 for each row in use, and the record at a number is that of the row in use at that number.
 pub use Rattle.records.proofs.Saved.{length-records, bytes-of-records, count-records, record-at}
 -- A restored table has the row of each record at its number; all that is behind them is free and zero.

@@ -1,31 +1,12 @@
-// Saved rows: what saving and restoring come to, in `specs`, and one row as a record: putting it, reading
-// it, and what is wrong with it. Saving is in `saving`, restoring in `restoring`.
+// Saved rows: what saving and restoring come to, in `specs`, and one record: the row that it says, and what
+// is wrong with it. Saving is in `saving`, restoring in `restoring`, what it refuses in `faults`.
 mod answers;
 pub mod layout;
 
 ghost use mathlib.Core.Path.{_≡_};
-ghost use Rattle.wire.specs.Bytes.{placed};
-ghost use Rattle.records.specs.Records.{recordOf, frontRow, wrongMark, badRow};
+ghost use Rattle.records.specs.Records.{frontRow, wrongMark, badRow};
 pub use answers::Restored;
 use window::Row;
-
-// Puts the record of a row at the front of a slice; its other bytes stay as they were. The bit that
-// stands for no mark is zero in it. Where the slice is shorter than a record, all of it stays as it was.
-pub fn put_record(out: &mut [u8], row: Row)
-    ensures { λ _. ⌜ now (out .exit) ≡ placed (recordOf row) (now (out .entry)) ⌝ }
-{
-    if out.len() < layout::RECORD {
-        return;
-    }
-    put::put16(&mut out[0..layout::NODE_AT], layout::MARK);
-    put::put_node(&mut out[layout::NODE_AT..layout::KEY_AT], row.node);
-    put::put16(&mut out[layout::KEY_AT..layout::HIGHEST_AT], row.key);
-    put::put32(&mut out[layout::HIGHEST_AT..layout::MARKS_AT], row.highest);
-    put::put16(
-        &mut out[layout::MARKS_AT..layout::RECORD],
-        (row.marks as u32 % Row::ABOVE_MARKS) as u16,
-    );
-}
 
 // The row of the record at the front of a slice: in use, with what the fields say, whatever that is.
 // Where the slice is shorter than a record, a free row.

@@ -1,47 +1,20 @@
--- What the loops over the records find, the answer that follows, and the rows that are then put. Assumes nothing.
-use Prim.Native.Nat.{ℕ, zero, suc, _+_, _-_, _*_, _/_, _%_, _≤_, _<_}
+-- The answer that follows from a refusal's number, and the rows that are put. Assumes nothing.
+use Prim.Native.Nat.{ℕ, zero, suc, _+_, _/_, _%_, _≤_, _<_}
 use mathlib.Core.Path.{_≡_, refl, sym, ap, _∙_}
 use mathlib.Core.Bool.{Bool, true, false, not, _||_}
 use mathlib.Core.List.{List, [], _∷_}
 use native.Mathlib.Omega.{arith}
-use borrow.Author.Tests.{lt-ltb, le-ltb, ltb-false}
+use borrow.Author.Tests.{ltb-false}
 use lib.Dec.{eqb, ltb}
-use lib.ListN.{length, take, drop, length-drop}
-use lib.Seq.{length-take-le}
+use lib.ListN.{length}
 use Rattle.message.specs.Order.{_when_, first}
 use Rattle.message.specs.Answers.{refusal}
 use Rattle.window.specs.declared.Row.{Row}
-use Rattle.table.specs.Table.{rows, withRow, putAt, firstBelow}
-use Rattle.table.proofs.Least.{Tried, tried-all, tried-till}
+use Rattle.table.specs.Table.{rows, withRow, putAt}
 use Rattle.table.proofs.Words.{put-within}
-use Rattle.records.specs.Records.{frontRow, wrongMark, badRow}
+use Rattle.records.specs.Records.{wrongMark, badRow}
 use Rattle.records.specs.Restoring.{recordCount, recordAt, rowFrom, someBelow, namedBefore, restoringOrder, restored, restoreOf, withRows, restoredTable, tableAfter, restoreTable}
 use Rattle.records.specs.declared.answers.Restored.the-variants.{Placed, Refused}
-use Rattle.records.proofs.Fronts.{front-row}
-
--- ---- one record
-
--- the part that code takes is the record
-pub record-part : (bytes : List ℕ) (i : ℕ) → take (18 * i + 18 - 18 * i) (drop (18 * i) bytes) ≡ recordAt bytes i
-record-part bytes i = let w : 18 * i + 18 - 18 * i ≡ 18 = omega arith in ap (λ (n : ℕ). take n (drop (18 * i) bytes)) w
-
--- and it is whole
-pub record-row : (bytes : List ℕ) (i : ℕ) → i < recordCount bytes → frontRow (take (18 * i + 18 - 18 * i) (drop (18 * i) bytes)) ≡ rowFrom bytes i
-record-row bytes i l =
-    let k = length-drop (18 * i) bytes in
-    let n = length-take-le 18 (drop (18 * i) bytes) (omega (arith, k, l)) in
-    ap frontRow (record-part bytes i) ∙ front-row (recordAt bytes i) (omega (arith, n))
-
--- ---- a loop that looks for one
-
-module _ (n : ℕ) (p : ℕ → Bool) (i : ℕ) (tried : Tried n p i) where
-  -- there is none
-  pub some-none : n ≤ i → false ≡ someBelow n p
-  some-none l = let e = tried-all n p i tried l in sym (le-ltb (firstBelow n p) n (omega (arith, e)))
-
-  -- here
-  pub some-here : (b : Bool) → i < n → b ≡ p i → b ≡ true → true ≡ someBelow n p
-  some-here b l e t = let f = tried-till n p i b tried l e t in sym (lt-ltb (firstBelow n p) n (omega (arith, f, l)))
 
 -- ---- the answer and the table
 

@@ -4,13 +4,16 @@ ghost use Prim.Native.Nat.{_*_, _≤_};
 ghost use lib.ListN.{length};
 ghost use lib.Dec.{ltb};
 ghost use lib.Seq.{sets};
+ghost use Rattle.wire.specs.Bytes.{placed};
 ghost use Rattle.table.specs.Table.{rowsInUse};
+ghost use Rattle.records.specs.Records.{recordOf};
 ghost use Rattle.records.specs.Saving.{savedBytes, saveOf, saveBuffer};
 use message::Refusal;
 use message::Writing;
 use records::layout;
 use table::ROWS;
 use table::WORDS;
+use window::Row;
 
 // How many rows are in use.
 fn rows_in_use(table: &[u64; WORDS]) -> usize
@@ -37,6 +40,24 @@ fn lacks_room(table: &[u64; WORDS], room: usize) -> bool
     room < layout::RECORD * rows_in_use(table)
 }
 
+// Puts the record of a row at the front of a slice; its other bytes stay as they were. The bit that
+// stands for no mark is zero in it. Where the slice is shorter than a record, all of it stays as it was.
+fn put_record(out: &mut [u8], row: Row)
+    ensures { λ _. ⌜ now (out .exit) ≡ placed (recordOf row) (now (out .entry)) ⌝ }
+{
+    if out.len() < layout::RECORD {
+        return;
+    }
+    put::put16(&mut out[0..layout::NODE_AT], layout::MARK);
+    put::put_node(&mut out[layout::NODE_AT..layout::KEY_AT], row.node);
+    put::put16(&mut out[layout::KEY_AT..layout::HIGHEST_AT], row.key);
+    put::put32(&mut out[layout::HIGHEST_AT..layout::MARKS_AT], row.highest);
+    put::put16(
+        &mut out[layout::MARKS_AT..layout::RECORD],
+        (row.marks as u32 % Row::ABOVE_MARKS) as u16,
+    );
+}
+
 // Puts the record of each row in use, one behind the other, and gives the length of them all.
 fn put_records(table: &[u64; WORDS], out: &mut [u8]) -> usize
     requires { ⌜ length (savedBytes (now table)) ≤ length (now out) ⌝ }
@@ -47,7 +68,7 @@ fn put_records(table: &[u64; WORDS], out: &mut [u8]) -> usize
     while number < ROWS {
         let row = table_rows::row_at(table, number);
         if row.used {
-            records::put_record(&mut out[at..at + layout::RECORD], row);
+            put_record(&mut out[at..at + layout::RECORD], row);
             at += layout::RECORD;
         }
         number += 1;

@@ -8,6 +8,7 @@ use lib.ListN.{length, replicate}
 use lib.Seq.{sets}
 use Rattle.table.specs.Table.{rows}
 use Rattle.records.specs.Restoring.{recordCount, rowFrom, withRows, restoredTable}
+use Rattle.records.proofs.Fronts.{record-row}
 use Rattle.records.proofs.Placed.{length-rows}
 use Rattle.restoring.proofs.Judged.{next-row}
 use Rattle.restoring.proofs.Whole.{all-put}
@@ -26,8 +27,10 @@ loop-holds c = (omega arith, refl)
 
 loop-again : tie.Need-loop-again Inv-loop μ-loop
 loop-again c =
-    let most : recordCount (c .before .before .before .before .before .before .args .bytes .now) ≤ rows = c .before .before .before .before .before .before .pre in
-    (search needs, next-row (rowFrom (c .before .before .before .before .before .before .args .bytes .now)) (c .before .before .before .before .before .before .args .table .now) _ _ (c .before .before .before .before .loop .number) _ (omega arith) (c .before .before .before .before .loop .inv .1) (c .before .row-from .ensures) (c .put-row .ensures))
+    let bytes = c .before .before .before .before .before .before .before .args .bytes .now in
+    let i = c .before .before .before .before .before .loop .number in
+    let most : recordCount bytes ≤ rows = c .before .before .before .before .before .before .before .pre in
+    (search needs, next-row (rowFrom bytes) (c .before .before .before .before .before .before .before .args .table .now) _ _ i _ (omega arith) (c .before .before .before .before .before .loop .inv .1) (c .before .before .row-in .ensures ∙ record-row bytes i (search needs)) (c .put-row .ensures))
 
 mul-clear : tie.Need-mul-clear Inv-loop μ-loop
 mul-clear c = let most : recordCount (c .before .before .before .before .args .bytes .now) ≤ rows = c .before .before .before .before .pre in omega arith
@@ -52,6 +55,11 @@ place-spec =
     Inv-loop
     μ-loop
     loop-holds
+    (λ c. search needs)
+    (λ c. search needs)
+    (λ c. search needs)
+    (λ c. search needs)
+    (λ c. search needs)
     (λ c κs. search needs)
     (λ c κs. search needs)
     (λ c. search needs)

@@ -5,9 +5,9 @@ use borrow.Author.Needs.{needs}
 use Rattle.table.proofs.Least.{Tried, tried-none, tried-one}
 use Rattle.records.specs.Records.{sameName}
 use Rattle.records.specs.Restoring.{rowFrom, namedBefore}
-use Rattle.restoring.proofs.Judged.{some-none, some-here}
-use Rattle.restoring.proofs.named_before.Statement.{statement}
-use Rattle.restoring.proofs.named_before.Tie as tie
+use Rattle.faults.proofs.Looking.{some-none, some-here}
+use Rattle.faults.proofs.named_before.Statement.{statement}
+use Rattle.faults.proofs.named_before.Tie as tie
 
 abbrev Inv-loop : tie.InvT-loop
 Inv-loop bytes number row before₀ before = Tried number (λ j. sameName (rowFrom bytes j) (rowFrom bytes number)) before

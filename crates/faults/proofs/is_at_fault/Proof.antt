@@ -2,11 +2,11 @@
 use mathlib.Core.Path.{sym, ap, _∙_}
 use borrow.Author.Needs.{needs}
 use Rattle.records.specs.Records.{wrongMark, badRow}
-use Rattle.restoring.specs.Faults.{faultAt}
-use Rattle.restoring.specs.declared.Fault.{Fault}
-use Rattle.restoring.proofs.Judged.{record-part}
-use Rattle.restoring.proofs.is_at_fault.Statement.{statement}
-use Rattle.restoring.proofs.is_at_fault.Tie as tie
+use Rattle.faults.specs.Faults.{faultAt}
+use Rattle.faults.specs.declared.Fault.{Fault}
+use Rattle.records.proofs.Fronts.{record-part}
+use Rattle.faults.proofs.is_at_fault.Statement.{statement}
+use Rattle.faults.proofs.is_at_fault.Tie as tie
 
 returns : tie.Need-returns
 returns c =

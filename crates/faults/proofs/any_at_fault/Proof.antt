@@ -3,10 +3,10 @@ use Prim.Native.Nat.{_-_}
 use borrow.Author.Needs.{needs}
 use Rattle.table.proofs.Least.{Tried, tried-none, tried-one}
 use Rattle.records.specs.Restoring.{recordCount}
-use Rattle.restoring.specs.Faults.{faultAt}
-use Rattle.restoring.proofs.Judged.{some-none, some-here}
-use Rattle.restoring.proofs.any_at_fault.Statement.{statement}
-use Rattle.restoring.proofs.any_at_fault.Tie as tie
+use Rattle.faults.specs.Faults.{faultAt}
+use Rattle.faults.proofs.Looking.{some-none, some-here}
+use Rattle.faults.proofs.any_at_fault.Statement.{statement}
+use Rattle.faults.proofs.any_at_fault.Tie as tie
 
 abbrev Inv-loop : tie.InvT-loop
 Inv-loop bytes fault count number₀ number = Tried (recordCount bytes) (faultAt fault bytes) number

@@ -4,8 +4,8 @@ use mathlib.Core.Bool.{Bool}
 use mathlib.Core.List.{List}
 use Rattle.records.specs.Records.{wrongMark, badRow}
 use Rattle.records.specs.Restoring.{recordAt, rowFrom, namedBefore}
-use Rattle.restoring.specs.declared.Fault.{Fault}
-use Rattle.restoring.specs.declared.Fault.the-variants as Fault
+use Rattle.faults.specs.declared.Fault.{Fault}
+use Rattle.faults.specs.declared.Fault.the-variants as Fault
 
 -- has the record at a number this fault?
 abbrev pub faultAt : Fault → List ℕ → ℕ → Bool

@@ -7,11 +7,11 @@ use Rattle.wire.specs.Bytes.{littleBytes, bigBytes}
 use Rattle.wire.proofs.Fronts.{put-short, sets-placed}
 use Rattle.wire.proofs.Places.{place-put}
 use Rattle.wire.proofs.Runs.{fronted}
 use Rattle.records.specs.Records.{recordOf}
-use Rattle.records.proofs.Filled.{then-put}
+use Rattle.saving.proofs.Filled.{then-put}
 use borrow.Author.Needs.{needs}
-use Rattle.records.proofs.put_record.Statement.{statement}
-use Rattle.records.proofs.put_record.Tie as tie
+use Rattle.saving.proofs.put_record.Statement.{statement}
+use Rattle.saving.proofs.put_record.Tie as tie
 
 returns : tie.Need-returns
 unfolding recordOf

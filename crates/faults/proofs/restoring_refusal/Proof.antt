@@ -2,8 +2,8 @@
 use mathlib.Core.Path.{refl, sym, _∙_}
 use borrow.Author.Needs.{needs}
 use Rattle.records.proofs.Decided.{decided}
-use Rattle.restoring.proofs.restoring_refusal.Statement.{statement}
-use Rattle.restoring.proofs.restoring_refusal.Tie as tie
+use Rattle.faults.proofs.restoring_refusal.Statement.{statement}
+use Rattle.faults.proofs.restoring_refusal.Tie as tie
 
 returns : tie.Need-returns
 returns c = sym (decided _ (c .if1 .taken) refl refl refl)

@@ -1,0 +1,4 @@
+-- The laws that belong to no one function.
+pub mod Promises
+pub mod Looking
+pub mod Outcomes

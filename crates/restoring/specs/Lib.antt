@@ -1,2 +1,0 @@
--- What the contracts of `restoring` cite.
-pub mod Faults
