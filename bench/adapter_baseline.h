@@ -11,11 +11,12 @@ static inline struct gw_answer gw_receive(void *table, uint64_t own, uint64_t li
 {
 	struct wv_arrival a = { message, length, own, link, id, passed };
 	struct wv_received r;
-	int refusal = wv_receive(table, &a, out, room, &r);
+	size_t offset;
+	int refusal = wv_receive(table, &a, out, room, &r, &offset);
 
 	if (refusal)
-		return (struct gw_answer){ (uint32_t)refusal, false, 0 };
-	return (struct gw_answer){ 0, r.verdict == WV_DUPLICATE, r.ack_len };
+		return (struct gw_answer){ (uint32_t)refusal, false, 0, offset };
+	return (struct gw_answer){ 0, r.verdict == WV_DUPLICATE, r.ack_len, 0 };
 }
 
 static inline long gw_save(const void *table, uint8_t *out, size_t room)

@@ -12,12 +12,12 @@ static inline void gw_open(void *table)
 static inline struct gw_answer gw_receive(void *table, uint64_t own, uint64_t link, uint32_t id, bool passed,
 	const uint8_t *message, size_t length, uint8_t *out, size_t room)
 {
-	uint64_t fields[KABIZARLE_FIELDS];
-	uint32_t refusal = kabizarle_receive(own, link, passed, id, message, length, table, out, room, fields);
+	uint64_t fields[KABIZARLE_FIELDS], offset;
+	uint32_t refusal = kabizarle_receive(own, link, passed, id, message, length, table, out, room, fields, &offset);
 
 	if (refusal)
-		return (struct gw_answer){ refusal, false, 0 };
-	return (struct gw_answer){ 0, fields[KABIZARLE_VERDICT] == KABIZARLE_DUPLICATE, (uint32_t)fields[KABIZARLE_REPLY_LENGTH] };
+		return (struct gw_answer){ refusal, false, 0, offset };
+	return (struct gw_answer){ 0, fields[KABIZARLE_VERDICT] == KABIZARLE_DUPLICATE, (uint32_t)fields[KABIZARLE_REPLY_LENGTH], 0 };
 }
 
 static inline long gw_save(const void *table, uint8_t *out, size_t room)

@@ -10,7 +10,7 @@ static inline struct gw_answer gw_receive(void *table, uint64_t own, uint64_t li
 {
 	(void)own, (void)link, (void)id, (void)passed, (void)length, (void)room;
 	__asm__ volatile("" :: "r"(table), "r"(message), "r"(out) : "memory");
-	return (struct gw_answer){ 0, false, 0 };
+	return (struct gw_answer){ 0, false, 0, 0 };
 }
 
 static inline long gw_save(const void *table, uint8_t *out, size_t room)

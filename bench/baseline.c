@@ -7,6 +7,7 @@ enum {
 	EXCHANGE_RESERVED = 0xe8,
 	ACK_HEADER = 2 << 12 | WV_SOURCE | WV_DESTINATION,
 	ACK_TYPE = 2,
+	NODES_AT = 6, /* where the source stands, or the destination if there is no source */
 	RECORD_MARK = 0x5752,
 };
 
@@ -28,31 +29,38 @@ static always_inline uint8_t *put_node(uint8_t *p, uint64_t n) { n = __builtin_b
 /* All zero or all ones: never the node of a sender. */
 static always_inline bool reserved_node(uint64_t n) { return n + 1 < 2; }
 
+/* Says where a message is at fault, and gives the refusal. */
+static always_inline int refuse(enum wv_refusal refusal, size_t at, size_t *offset)
+{
+	*offset = at;
+	return refusal;
+}
+
 /* Refusals 1 to 9 and the fields up to the key id; *at is where what follows starts. */
-static always_inline int read_outer(const uint8_t *msg, size_t len, struct wv_message *m, size_t *at)
+static always_inline int read_outer(const uint8_t *msg, size_t len, struct wv_message *m, size_t *at, size_t *offset)
 {
 	if (len > WV_MAX_MESSAGE)
-		return WV_TOO_LONG;
+		return refuse(WV_TOO_LONG, WV_MAX_MESSAGE, offset);
 	if (len < 2)
-		return WV_TOO_SHORT;
+		return refuse(WV_TOO_SHORT, len, offset);
 
 	unsigned h = get16(msg), version = h >> 12;
 
 	if (version != 1 && version != 2)
-		return WV_BAD_VERSION;
+		return refuse(WV_BAD_VERSION, 0, offset);
 	if (h & HEADER_RESERVED)
-		return WV_RESERVED_BIT;
+		return refuse(WV_RESERVED_BIT, 0, offset);
 	if ((h & WV_TUNNELLED) && version == 1)
-		return WV_TUNNEL_IN_V1;
+		return refuse(WV_TUNNEL_IN_V1, 0, offset);
 	if ((h >> 4 & 0xf) > 1)
-		return WV_BAD_ENCRYPT_TYPE;
+		return refuse(WV_BAD_ENCRYPT_TYPE, 0, offset);
 
-	size_t after = 6 + (h & WV_SOURCE ? 8 : 0) + (h & WV_DESTINATION ? 8 : 0) + (h & WV_ENCRYPTED ? 2 : 0);
+	size_t after = NODES_AT + (h & WV_SOURCE ? 8 : 0) + (h & WV_DESTINATION ? 8 : 0) + (h & WV_ENCRYPTED ? 2 : 0);
 
 	if (len < after + (h & WV_TUNNELLED ? 2 : 8) + (h & WV_ENCRYPTED ? WV_CHECK_LEN : 0))
-		return WV_TOO_SHORT;
+		return refuse(WV_TOO_SHORT, len, offset);
 
-	const uint8_t *p = msg + 6;
+	const uint8_t *p = msg + NODES_AT;
 	uint64_t source = 0, destination = 0;
 	uint16_t key_id = 0;
 
@@ -67,12 +75,12 @@ static always_inline int read_outer(const uint8_t *msg, size_t len, struct wv_me
 	if (h & WV_ENCRYPTED) {
 		key_id = get16(p);
 		if (key_id >> 12 != 1 && key_id >> 12 != 2)
-			return WV_BAD_KEY_TYPE;
+			return refuse(WV_BAD_KEY_TYPE, (size_t)(p - msg), offset);
 	}
 	if ((h & WV_SOURCE) && reserved_node(source))
-		return WV_BAD_SOURCE;
+		return refuse(WV_BAD_SOURCE, NODES_AT, offset);
 	if ((h & WV_DESTINATION) && destination == 0)
-		return WV_BAD_DESTINATION;
+		return refuse(WV_BAD_DESTINATION, NODES_AT + (h & WV_SOURCE ? 8 : 0), offset);
 
 	m->header = (uint16_t)h;
 	m->id = get32(msg + 2);
@@ -83,10 +91,10 @@ static always_inline int read_outer(const uint8_t *msg, size_t len, struct wv_me
 	return 0;
 }
 
-static always_inline int read_message(const uint8_t *msg, size_t len, struct wv_message *m)
+static always_inline int read_message(const uint8_t *msg, size_t len, struct wv_message *m, size_t *offset)
 {
 	size_t at;
-	int refusal = read_outer(msg, len, m, &at);
+	int refusal = read_outer(msg, len, m, &at, offset);
 
 	if (refusal)
 		return refusal;
@@ -96,9 +104,9 @@ static always_inline int read_message(const uint8_t *msg, size_t len, struct wv_
 
 	if (m->header & WV_TUNNELLED) {
 		if (p[0] != 1)
-			return WV_BAD_TUNNEL_VERSION;
+			return refuse(WV_BAD_TUNNEL_VERSION, at, offset);
 		if (p[1] >> 4 != 4 && p[1] >> 4 != 6)
-			return WV_BAD_PACKET;
+			return refuse(WV_BAD_PACKET, at + 1, offset);
 		m->exchange = m->type = 0;
 		m->exchange_id = 0;
 		m->profile_id = m->acked_id = 0;
@@ -107,9 +115,9 @@ static always_inline int read_message(const uint8_t *msg, size_t len, struct wv_
 		unsigned x = p[0];
 
 		if ((x & (EXCHANGE_F | EXCHANGE_RESERVED)) != EXCHANGE_F)
-			return WV_BAD_EXCHANGE_BIT;
+			return refuse(WV_BAD_EXCHANGE_BIT, at, offset);
 		if ((x & (WV_ACKS | WV_WANTS_ACK)) && wv_version(m) == 1)
-			return WV_RELIABLE_IN_V1;
+			return refuse(WV_RELIABLE_IN_V1, at, offset);
 		m->exchange = (uint8_t)(x & ~EXCHANGE_F);
 		m->type = p[1];
 		m->exchange_id = get16(p + 2);
@@ -118,7 +126,7 @@ static always_inline int read_message(const uint8_t *msg, size_t len, struct wv_
 		at += 8;
 		if (x & WV_ACKS) {
 			if (end - at < 4)
-				return WV_TOO_SHORT;
+				return refuse(WV_TOO_SHORT, len, offset);
 			m->acked_id = get32(p + 8);
 			at += 4;
 		}
@@ -128,16 +136,16 @@ static always_inline int read_message(const uint8_t *msg, size_t len, struct wv_
 	return 0;
 }
 
-int wv_read(const uint8_t *msg, size_t len, struct wv_message *m)
+int wv_read(const uint8_t *msg, size_t len, struct wv_message *m, size_t *offset)
 {
-	return read_message(msg, len, m);
+	return read_message(msg, len, m, offset);
 }
 
-int wv_read_outer(const uint8_t *msg, size_t len, struct wv_outer *o)
+int wv_read_outer(const uint8_t *msg, size_t len, struct wv_outer *o, size_t *offset)
 {
 	struct wv_message m;
 	size_t at;
-	int refusal = read_outer(msg, len, &m, &at);
+	int refusal = read_outer(msg, len, &m, &at, offset);
 
 	if (refusal)
 		return refusal;
@@ -231,26 +239,26 @@ static always_inline void put_ack(uint8_t *p, const struct wv_message *m, uint64
 		__builtin_memset(p, 0, WV_CHECK_LEN);
 }
 
-int wv_receive(struct wv_table *table, const struct wv_arrival *a, uint8_t *out, size_t room, struct wv_received *r)
+int wv_receive(struct wv_table *table, const struct wv_arrival *a, uint8_t *out, size_t room, struct wv_received *r, size_t *offset)
 {
 	struct wv_message *m = &r->message;
 
 	if (reserved_node(a->own))
-		return WV_BAD_OWN_NODE;
+		return refuse(WV_BAD_OWN_NODE, 0, offset);
 
-	int refusal = read_message(a->msg, a->len, m);
+	int refusal = read_message(a->msg, a->len, m, offset);
 
 	if (refusal)
 		return refusal;
 	if ((m->header & WV_DESTINATION) && m->destination != a->own && m->destination != ANY_NODE)
-		return WV_NOT_FOR_US;
+		return refuse(WV_NOT_FOR_US, 0, offset);
 
 	uint64_t sender = m->header & WV_SOURCE ? m->source : a->link;
 
 	if (reserved_node(sender))
-		return WV_NO_SENDER;
+		return refuse(WV_NO_SENDER, 0, offset);
 	if ((m->header & WV_ENCRYPTED) && !a->check_passed)
-		return WV_CHECK_FAILED;
+		return refuse(WV_CHECK_FAILED, 0, offset);
 
 	/* 22 cannot happen: a message that got here has a legal sender and key id. */
 	uint32_t ack_len = 0;
@@ -258,14 +266,14 @@ int wv_receive(struct wv_table *table, const struct wv_arrival *a, uint8_t *out,
 	if (m->exchange & WV_WANTS_ACK)
 		ack_len = m->header & WV_ENCRYPTED ? WV_ACK_LEN_ENCRYPTED : WV_ACK_LEN;
 	if (room < ack_len)
-		return WV_NO_ROOM;
+		return refuse(WV_NO_ROOM, 0, offset);
 
 	struct wv_row *row = find(table, sender, m->key_id);
 
 	if (!row) {
 		row = find_free(table);
 		if (!row)
-			return WV_TABLE_FULL;
+			return refuse(WV_TABLE_FULL, 0, offset);
 		row->node = sender;
 		row->key_id = m->key_id;
 	}

@@ -5,7 +5,8 @@
  * eight bytes, EUI[0] first, and here one number: 02 00 .. 01 is 0x0200000000000001.
  *
  * Every function returns 0 or the number of the refusal. A refused call changes neither table nor buffer, and what it leaves
- * in a result struct means nothing. */
+ * in a result struct means nothing. `offset` is written where a message is refused, and nowhere else: the byte at fault, 0 where
+ * the refusal is about none. */
 #ifndef BASELINE_H
 #define BASELINE_H
 #include <stdbool.h>
@@ -115,8 +116,8 @@ struct wv_received {
 	struct wv_message message;
 };
 
-int wv_read(const uint8_t *msg, size_t len, struct wv_message *m);
-int wv_read_outer(const uint8_t *msg, size_t len, struct wv_outer *o);
+int wv_read(const uint8_t *msg, size_t len, struct wv_message *m, size_t *offset);
+int wv_read_outer(const uint8_t *msg, size_t len, struct wv_outer *o, size_t *offset);
 
 /* The first message of a framed stream and its rest; or, returned, how many bytes are still wanted. */
 size_t wv_next_frame(const uint8_t *s, size_t len, struct wv_part *msg, struct wv_part *rest);
@@ -124,7 +125,7 @@ size_t wv_next_frame(const uint8_t *s, size_t len, struct wv_part *msg, struct w
 /* Rolls a lent row forward by one message. A row not in use takes it as its first. */
 enum wv_verdict wv_roll(struct wv_row *row, uint32_t id);
 
-int wv_receive(struct wv_table *table, const struct wv_arrival *a, uint8_t *out, size_t room, struct wv_received *r);
+int wv_receive(struct wv_table *table, const struct wv_arrival *a, uint8_t *out, size_t room, struct wv_received *r, size_t *offset);
 int wv_remove(struct wv_table *table, uint64_t node, uint16_t key_id);
 
 /* The rows in use as records of 18 bytes, and back; `len` and `rows` get how many bytes or rows they are. */

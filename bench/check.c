@@ -1,6 +1,6 @@
-/* check: the worked examples through the adapter: X and its acknowledgement, the refusals of two bytes, the ledger P1 to P12 by its verdicts, and
- * the row of X saved, restored and refused. Exit status: 0, or the number of the first that fails: 1 to 12 for the ledger, 101 and up for
- * the rest. */
+/* check: the worked examples through the adapter: X and its acknowledgement, the refusals of two bytes and those of messages with a field at fault,
+ * each with its byte, the ledger P1 to P12 by its verdicts, and the row of X saved, restored and refused. Exit status: 0, or the number of the first
+ * that fails: 1 to 12 for the ledger, 101 and up for the rest. */
 #include "start.h"
 #include "messages.h"
 
@@ -8,6 +8,7 @@ enum { MARKS = 15 };
 #define MARK(k) (1u << ((k) - 1))
 
 static const uint8_t REPLY[34] = { 0x00, 0x23, 9, 0, 0, 0, 2, 0, 0, 0, 0, 0, 0, 1, 2, 0, 0, 0, 0, 0, 0, 0x0e, 0x12, 2, 2, 1, 0, 0, 0, 0, 5, 0, 0, 0 };
+/* Two bytes, and what refuses them; the byte at fault is the length for 2, and else 0. */
 static const uint8_t TWO[6][3] = { { 0x00, 0x20, 2 }, { 0x00, 0x30, 3 }, { 0x01, 0x20, 4 }, { 0x00, 0x28, 4 }, { 0x00, 0x14, 5 }, { 0x20, 0x20, 6 } };
 
 static void must(long number, bool holds)
@@ -45,6 +46,38 @@ static uint32_t marks(uint32_t highest)
 		if (ask(false, highest - k) == 'd')
 			set |= MARK(k);
 	return set;
+}
+
+/* A message that is refused, and its byte at fault. */
+static bool refuses(const uint8_t *message, size_t length, uint32_t refusal, uint64_t offset)
+{
+	struct gw_answer a = receive(message, length);
+
+	return a.refusal == refusal && a.offset == offset;
+}
+
+/* Messages with one byte changed, each with the byte that its refusal points at; cut short, too long, and for another gateway. */
+static void fields_at_fault(void)
+{
+	static uint8_t too_long[1233], nobody[30] = { 0x00, 0x23, 5, 0, 0, 0, 0, 0, 0, 0, 0, 0, 0, 0, 2 };
+	static const struct { uint8_t *message; size_t length; uint8_t at, byte, refusal, offset; } faults[] = {
+		{ secret, sizeof secret, 23, 0x30, 7, 22 }, { secret, sizeof secret, 24, 0x01, 10, 24 }, { nobody, sizeof nobody, 21, 1, 8, 6 },
+		{ X, sizeof X, 1, 0x13, 11, 22 }, { X, sizeof X, 22, 0x35, 10, 22 }, { X, sizeof X, 22, 0x17, 2, 30 }, { X, sizeof X - 1, 22, 0x15, 2, 29 },
+		{ X, sizeof X, 21, 2, 16, 0 }, { tunnel, sizeof tunnel, 22, 2, 12, 22 }, { tunnel, sizeof tunnel, 23, 0x55, 13, 23 },
+	};
+
+	for (size_t i = 0; i < sizeof faults / sizeof *faults; i++) {
+		uint8_t *byte = faults[i].message + faults[i].at, right = *byte;
+
+		*byte = faults[i].byte;
+		must(130 + (long)i, refuses(faults[i].message, faults[i].length, faults[i].refusal, faults[i].offset));
+		*byte = right;
+	}
+	nobody[13] = 0x0e, nobody[14] = 0; /* a source, and a destination that is all zero */
+	must(140, refuses(nobody, sizeof nobody, 9, 14));
+	nobody[1] = 0x21, nobody[13] = 0; /* such a destination alone */
+	must(141, refuses(nobody, sizeof nobody, 9, 6));
+	must(142, refuses(too_long, sizeof too_long, 1, 1232) && refuses(X, 1, 2, 1) && refuses(X, 0, 2, 0));
 }
 
 /* The row of X, saved and restored; and two rows, the second with one byte changed, taken or refused. */
@@ -85,7 +118,8 @@ static void bench_begin(long *stack)
 			must(103, out[i] == REPLY[i]);
 	}
 	for (int i = 0; i < 6; i++)
-		must(110 + i, receive(TWO[i], 2).refusal == TWO[i][2]);
+		must(110 + i, refuses(TWO[i], 2, TWO[i][2], TWO[i][2] == 2 ? 2 : 0));
+	fields_at_fault();
 
 	gw_open(table);
 	must(1, ask(false, 5) == 'n' && marks(5) == 0);

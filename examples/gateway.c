@@ -1,10 +1,11 @@
 /* Lists a framed stream: ./gateway [-t TABLE] [FILE] < STREAM
  * To build it on x86-64: cc -I include examples/gateway.c "$(./archive)" -o gateway
  *
- * It prints what ./list prints: a line for each message, with its ordinal, the verdict, and the message id or the number of the
- * refusal, and then how many bytes are left over. The acknowledgements, each framed, go to FILE if it is given. With -t the table
- * is kept in the file TABLE from one run to the next; where there is no such file it starts empty, and says so. The exit status is 2
- * where the arguments, the input or an output failed, or where TABLE cannot be written or is refused, which then stays as it is. */
+ * It prints what ./list prints: a line for each message, with its ordinal, the verdict, and the message id, or the number of the
+ * refusal and the byte at fault; and then how many bytes are left over. The acknowledgements, each framed, go to FILE if it is given.
+ * With -t the table is kept in the file TABLE from one run to the next; where there is no such file it starts empty, and says so. The
+ * exit status is 2 where the arguments, the input or an output failed, or where TABLE cannot be written or is refused, which then
+ * stays as it is. */
 #define _POSIX_C_SOURCE 200112L
 #include <kabizarle.h>
 #include <errno.h>
@@ -99,12 +100,12 @@ static bool send_reply(FILE *replies, const uint8_t *reply, size_t length)
 static bool hear(uint64_t *table, uint32_t *next_id, unsigned long ordinal, const uint8_t *message, size_t length, FILE *replies)
 {
 	uint8_t reply[ROOM];
-	uint64_t fields[KABIZARLE_FIELDS];
+	uint64_t fields[KABIZARLE_FIELDS], offset;
 	/* The check of an encrypted message counts as passed: here the radio module's own answer belongs. */
-	uint32_t refusal = kabizarle_receive(OWN_NODE, LINK_NODE, true, *next_id, message, length, table, reply, sizeof reply, fields);
+	uint32_t refusal = kabizarle_receive(OWN_NODE, LINK_NODE, true, *next_id, message, length, table, reply, sizeof reply, fields, &offset);
 
 	if (refusal != 0)
-		return printf("%lu refused %u\n", ordinal, (unsigned)refusal) > 0;
+		return printf("%lu refused %u %lu\n", ordinal, (unsigned)refusal, (unsigned long)offset) > 0;
 	const char *verdict = fields[KABIZARLE_VERDICT] == KABIZARLE_NEW ? "new" : "duplicate";
 	if (printf("%lu %s %lu\n", ordinal, verdict, (unsigned long)fields[KABIZARLE_ID]) < 0)
 		return false;

@@ -2,7 +2,8 @@
  * To build it: examples/build examples/season.c season [-DMESSAGES=20000], which prints the words that run it, one to a line.
  *
  * The model shares no code with the library: it keeps accepted positions as plain numbers, shifts no marks and compares no ids. Compared are
- * the answer, the table, the acknowledgement, and what kabizarle_roll makes of a copy of the row. The exit status is 1 where one differs. */
+ * the answer, the table, the acknowledgement, and what kabizarle_roll makes of a copy of the row; and the byte at fault, which is 0 for every
+ * refusal of a legal message. The exit status is 1 where one differs. */
 #include <kabizarle.h>
 #include <stdio.h>
 #include <string.h>
@@ -16,6 +17,7 @@
  * still has a mark lie within 15 of it, and no position is accepted twice. */
 enum { NODES = 11, KEYS = 3, MARKS = 15, KEPT = 31 };
 static const uint64_t OWN = 0x0200000000000001, FIRST_NODE = 0x0200000000000100, KEY_IDS[KEYS] = { 0, 0x1001, 0x2abc };
+static const uint64_t NOWHERE = UINT64_MAX; /* what stands where the byte at fault goes, before each call */
 
 /* The model: the list of each row, numbered as in the table. */
 static struct list { uint64_t node, key, count, greatest, accepted[KEPT]; } model[KABIZARLE_ROWS];
@@ -112,7 +114,9 @@ static bool hear(uint32_t reply_id)
 
 	kabizarle_write(fields, NULL, 0, check, key ? sizeof check : 0, bytes, sizeof bytes, &length);
 	memcpy(before, table, sizeof table);
-	if (kabizarle_receive(OWN, 0, passed, reply_id, bytes, length, table, reply, room, fields) != expected)
+	uint64_t offset = NOWHERE;
+	uint32_t refusal = kabizarle_receive(OWN, 0, passed, reply_id, bytes, length, table, reply, room, fields, &offset);
+	if (refusal != expected || offset != (refusal ? 0 : NOWHERE))
 		return false;
 	if (expected != 0)
 		return memcmp(before, table, sizeof table) == 0;
@@ -120,7 +124,7 @@ static bool hear(uint32_t reply_id)
 		*l = (struct list){ .node = node, .key = key };
 	if (!judged_alike(l, (uint32_t)id, fields[KABIZARLE_VERDICT], before) || !wants != !fields[KABIZARLE_REPLY_LENGTH])
 		return false;
-	return !wants || (kabizarle_read(reply, fields[KABIZARLE_REPLY_LENGTH], fields) == 0 && memcmp(fields, right, sizeof right) == 0);
+	return !wants || (kabizarle_read(reply, fields[KABIZARLE_REPLY_LENGTH], fields, &offset) == 0 && memcmp(fields, right, sizeof right) == 0);
 }
 
 /* Takes a valve down, so that its name starts a new list: whether all rows are as the model says. */

@@ -2,10 +2,15 @@
  * tells a message heard before from a new one, its saving and restoring, and the acknowledgement. The archive is for x86-64.
  *
  * Answers.   Every function gives the number of the first refusal that applies, 0 for none. A refused call leaves all that it
- *            was lent as it was. Any bytes, numbers and table contents get an answer; what they hold need not be checked.
+ *            was lent as it was, but for `offset`. Any bytes, numbers and table contents get an answer; what they hold need not
+ *            be checked.
+ * Offset.    A call that reads a message and refuses puts the byte at fault into `offset`, counted from 0; a call that refuses
+ *            nothing leaves `offset` as it was. For refusal 1 it is KABIZARLE_LONGEST, for 2 the length of the message, for 3 to 6
+ *            the header's first byte, 0. For others it is the first byte of the field: 7 key id, 8 source, 9 destination, 10 and
+ *            11 exchange header, 12 tunnel version, 13 packet. From 15 on it is 0: those are about no byte of the message.
  * Memory.    The caller owns all of it. The library has no heap and no global state, and keeps no pointer after a call.
- *            An array is lent at its full size, and no two arrays that are lent to one call may overlap. A pointer whose
- *            length is 0 may be NULL; no other may.
+ *            An array is lent at its full size, and no two things that are lent to one call may overlap. A pointer whose
+ *            length is 0 may be NULL; no other may, `offset` and `written` neither.
  * Lengths.   Any number is a length. What is longer than a message can be, or than all saved rows can be, is refused and not read,
  *            but for the first byte of a payload; of a stream the first two bytes are read. No more of a room is written than is
  *            needed. Past PTRDIFF_MAX, which no object has, this is tested and not proved.
@@ -127,11 +132,11 @@ extern "C" {
 #define KABIZARLE_REFUSED_SAVED_ROW 25    /* saved rows: a node all zero or all ones, a key id neither 0 nor of type 1 or 2, or bit 15 of the marks set */
 #define KABIZARLE_REFUSED_SAVED_TWICE 26  /* saved rows: a name twice */
 
-/* Says which part of a message the radio module has to open. Refuses with 1 to 9. */
-uint32_t kabizarle_read_outer(const uint8_t *bytes, size_t length, uint64_t part[KABIZARLE_PART_PLACES]);
+/* Says which part of a message the radio module has to open. Refuses with 1 to 9; `offset` gets the byte at fault. */
+uint32_t kabizarle_read_outer(const uint8_t *bytes, size_t length, uint64_t part[KABIZARLE_PART_PLACES], uint64_t *offset);
 
-/* Reads a message into all places of `fields`. Refuses with 1 to 13. */
-uint32_t kabizarle_read(const uint8_t *bytes, size_t length, uint64_t fields[KABIZARLE_FIELDS]);
+/* Reads a message into all places of `fields`. Refuses with 1 to 13; `offset` gets the byte at fault. */
+uint32_t kabizarle_read(const uint8_t *bytes, size_t length, uint64_t fields[KABIZARLE_FIELDS], uint64_t *offset);
 
 /* Writes the message of places HEADER to ACKNOWLEDGED, with its payload and check; `written` gets its length. A number that its field
  * cannot hold, as a header with a reserved bit, is refused with 14 before all else; then 1 to 3, 5 to 9, 11, 13, 14 and 19. */
@@ -151,9 +156,11 @@ uint32_t kabizarle_frame(const uint8_t *message, size_t length, uint8_t *out, si
  *   passed  what the radio module says of the check of an encrypted message; not looked at for a plain one
  *   id      the message id of the acknowledgement, a new one for each
  *   bytes   the message, opened by the radio module if it is encrypted
- *   out     where the acknowledgement goes: 34 bytes, encrypted 56, and none where fields[KABIZARLE_REPLY_LENGTH] is 0 */
+ *   out     where the acknowledgement goes: 34 bytes, encrypted 56, and none where fields[KABIZARLE_REPLY_LENGTH] is 0
+ *   offset  where the byte at fault goes: for 1 to 13 as kabizarle_read gives it, for 15 to 20 it is 0 */
 uint32_t kabizarle_receive(uint64_t own, uint64_t link, bool passed, uint32_t id, const uint8_t *bytes, size_t length,
-                           uint64_t table[KABIZARLE_TABLE_WORDS], uint8_t *out, size_t room, uint64_t fields[KABIZARLE_FIELDS]);
+                           uint64_t table[KABIZARLE_TABLE_WORDS], uint8_t *out, size_t room, uint64_t fields[KABIZARLE_FIELDS],
+                           uint64_t *offset);
 
 /* Frees the row of a name: the NODE and the KEY of kabizarle_row, the key as a uint16_t. Refuses with 21. */
 uint32_t kabizarle_remove(uint64_t table[KABIZARLE_TABLE_WORDS], uint64_t node, uint16_t key);

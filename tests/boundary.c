@@ -10,6 +10,7 @@
 #define OWN UINT64_C(0x0200000000000001)
 #define SENDER UINT64_C(0x020000000000000e)
 #define ALL_ONES UINT64_MAX
+#define NOWHERE UINT64_C(0xa5a5a5a5a5a5a5a5) /* stands in `offset` before a call: no message has a byte of this number */
 #define LENGTH(array) (sizeof(array) / sizeof *(array))
 
 /* The place where X and its kin have the last byte of the source node. */
@@ -27,7 +28,7 @@ static const uint8_t TUNNEL[12] = { 0x00, 0x24, 6, 0, 0, 0, 1, 0x45, 1, 2, 3, 4 
 /* All that a call can be lent, and a copy from before the call. */
 static struct lent {
 	uint64_t fields[KABIZARLE_FIELDS], table[KABIZARLE_TABLE_WORDS], part[KABIZARLE_PART_PLACES], frame[KABIZARLE_FRAME_PLACES];
-	uint64_t row[KABIZARLE_ROW_WORDS], shown[KABIZARLE_ROW_PLACES], written, verdict, placed;
+	uint64_t row[KABIZARLE_ROW_WORDS], shown[KABIZARLE_ROW_PLACES], written, verdict, placed, offset;
 	uint8_t out[KABIZARLE_LONGEST + KABIZARLE_FRAME_BYTES];
 } lent, kept;
 
@@ -50,6 +51,11 @@ static void must(bool holds, int line, const char *what)
 /* A call that is refused by its number, and leaves all that was lent as it was. */
 #define REFUSED(number, call) \
 	(kept = lent, must((call) == (number), __LINE__, #call " is " #number), must(unchanged(), __LINE__, #call " changes nothing"))
+
+/* One that also puts the byte at fault into `offset`, and leaves all else as it was. */
+#define REFUSED_AT(number, at, call) \
+	(kept = lent, must((call) == (number), __LINE__, #call " is " #number), kept.offset = (at), \
+	 must(lent.offset == kept.offset, __LINE__, #call " is at " #at), must(unchanged(), __LINE__, #call " changes nothing but offset"))
 
 static bool unchanged(void) { return memcmp(&lent, &kept, sizeof lent) == 0; }
 
@@ -81,88 +87,202 @@ static uint8_t *guarded(void)
 /* The bytes, copied to where they end at the end of what may be read. */
 static const uint8_t *lend(const uint8_t *bytes, size_t length) { return memcpy(read_end - length, bytes, length); }
 
-/* Receiving and writing with what is lent. */
-static uint32_t receive(const uint8_t *bytes, size_t length)
+/* The answer of a call that is lent `offset`. One that refuses nothing and does not leave it as it was has no right answer. */
+static uint32_t answered(uint32_t answer) { return answer == 0 && lent.offset != NOWHERE ? UINT32_MAX : answer; }
+
+/* Outer reading, reading, receiving and writing with what is lent. */
+static uint32_t read_outer(const uint8_t *bytes, size_t length)
 {
-	return kabizarle_receive(OWN, 0, true, REPLY_ID, bytes, length, lent.table, lent.out, 64, lent.fields);
+	lent.offset = NOWHERE;
+	return answered(kabizarle_read_outer(bytes, length, lent.part, &lent.offset));
 }
+
+static uint32_t read_message(const uint8_t *bytes, size_t length)
+{
+	lent.offset = NOWHERE;
+	return answered(kabizarle_read(bytes, length, lent.fields, &lent.offset));
+}
+
+static uint32_t receive_by(uint64_t own, uint64_t link, bool good, const uint8_t *bytes, size_t length, uint8_t *out, size_t room)
+{
+	lent.offset = NOWHERE;
+	return answered(kabizarle_receive(own, link, good, REPLY_ID, bytes, length, lent.table, out, room, lent.fields, &lent.offset));
+}
+
+static uint32_t receive(const uint8_t *bytes, size_t length) { return receive_by(OWN, 0, true, bytes, length, lent.out, 64); }
 
 static uint32_t put(size_t payload, size_t check, size_t room)
 {
 	return kabizarle_write(lent.fields, SECRET, payload, SECRET + 39, check, lent.out, room, &lent.written);
 }
 
-/* A message that reading and receiving refuse, and outer reading too where the refusal is one of its own. */
-static void refused(uint32_t number, const uint8_t *bytes, size_t length)
+/* A message that reading and receiving refuse at a byte. */
+static const uint8_t *refused_by_both(uint32_t number, uint64_t at, const uint8_t *bytes, size_t length)
 {
 	bytes = lend(bytes, length);
 	scatter();
-	REFUSED(number, kabizarle_read(bytes, length, lent.fields));
-	REFUSED(number, receive(bytes, length));
-	if (number <= KABIZARLE_REFUSED_DESTINATION)
-		REFUSED(number, kabizarle_read_outer(bytes, length, lent.part));
+	REFUSED_AT(number, at, read_message(bytes, length));
+	REFUSED_AT(number, at, receive(bytes, length));
+	return bytes;
 }
 
-/* One byte of a message changed: the message is refused. */
-static void spoiled(uint32_t number, const uint8_t *message, size_t length, size_t at, uint8_t byte)
+/* The same, and outer reading too where the refusal is one of its own. */
+static void refused(uint32_t number, uint64_t at, const uint8_t *bytes, size_t length)
+{
+	bytes = refused_by_both(number, at, bytes, length);
+	if (number <= KABIZARLE_REFUSED_DESTINATION)
+		REFUSED_AT(number, at, read_outer(bytes, length));
+}
+
+/* One that outer reading does not see at fault. */
+static void refused_inside(uint32_t number, uint64_t at, const uint8_t *bytes, size_t length)
+{
+	bytes = refused_by_both(number, at, bytes, length);
+	MUST(read_outer(bytes, length) == 0);
+}
+
+/* Some bytes of a message overwritten, all by the same: the message is refused at a byte. */
+static void spoiled(uint32_t number, uint64_t at, const uint8_t *message, size_t length, size_t first, size_t count, int byte)
 {
 	uint8_t bytes[64];
 
 	memcpy(bytes, message, length);
-	bytes[at] = byte;
-	refused(number, bytes, length);
+	memset(bytes + first, byte, count);
+	refused(number, at, bytes, length);
 }
 
-/* Every refusal of reading, each by its nearest legal message. */
+/* Every refusal of reading but 1, each by its nearest legal message. */
 static void refusals_of_reading(void)
 {
 	static const uint8_t two[][3] = {
 		{ 0x00, 0x20, 2 }, { 0x00, 0x30, 3 }, { 0x01, 0x20, 4 }, { 0x00, 0x28, 4 }, { 0x00, 0x14, 5 }, { 0x20, 0x20, 6 },
 	};
-	uint8_t nodes[sizeof X];
 
 	for (size_t i = 0; i < LENGTH(two); i++)
-		refused(two[i][2], two[i], 2);
-	spoiled(KABIZARLE_REFUSED_KEY, SECRET, sizeof SECRET, 23, 0x30);
-	spoiled(KABIZARLE_REFUSED_KEY, SECRET, sizeof SECRET, 23, 0x00);
-	for (int byte = 0; byte < 256; byte += 255) {
-		memcpy(nodes, X, sizeof X);
-		memset(nodes + 6, byte, 8);
-		refused(KABIZARLE_REFUSED_SOURCE, nodes, sizeof nodes);
-	}
-	memcpy(nodes, X, sizeof X);
-	memset(nodes + 14, 0, 8);
-	refused(KABIZARLE_REFUSED_DESTINATION, nodes, sizeof nodes);
-	spoiled(KABIZARLE_REFUSED_EXCHANGE, X, sizeof X, 22, 0x05);
+		refused(two[i][2], two[i][2] == 2 ? 2 : 0, two[i], 2);
+	spoiled(KABIZARLE_REFUSED_KEY, 22, SECRET, sizeof SECRET, 23, 1, 0x30);
+	spoiled(KABIZARLE_REFUSED_KEY, 22, SECRET, sizeof SECRET, 23, 1, 0x00);
+	spoiled(KABIZARLE_REFUSED_SOURCE, 6, X, sizeof X, 6, 8, 0);
+	spoiled(KABIZARLE_REFUSED_SOURCE, 6, X, sizeof X, 6, 8, 0xff);
+	spoiled(KABIZARLE_REFUSED_DESTINATION, 14, X, sizeof X, 14, 8, 0);
+	spoiled(KABIZARLE_REFUSED_EXCHANGE, 22, X, sizeof X, 22, 1, 0x05);
 	for (int bit = 8; bit < 256; bit *= 2)
 		if (bit != 16)
-			spoiled(KABIZARLE_REFUSED_EXCHANGE, X, sizeof X, 22, (uint8_t)(0x15 + bit));
-	spoiled(KABIZARLE_REFUSED_OLD_ASKS, X, sizeof X, 1, 0x13);
-	spoiled(KABIZARLE_REFUSED_TUNNEL, TUNNEL, sizeof TUNNEL, 6, 2);
-	spoiled(KABIZARLE_REFUSED_PACKET, TUNNEL, sizeof TUNNEL, 7, 0x55);
+			spoiled(KABIZARLE_REFUSED_EXCHANGE, 22, X, sizeof X, 22, 1, 0x15 + bit);
+	spoiled(KABIZARLE_REFUSED_OLD_ASKS, 22, X, sizeof X, 1, 1, 0x13);
+	spoiled(KABIZARLE_REFUSED_TUNNEL, 6, TUNNEL, sizeof TUNNEL, 6, 1, 2);
+	spoiled(KABIZARLE_REFUSED_PACKET, 7, TUNNEL, sizeof TUNNEL, 7, 1, 0x55);
+}
+
+/* The shapes of a message: the two bytes of its header, and where destination, key id and body start; 0 for a field that it does not have. */
+static const struct shape { uint8_t low, high, destination, key, body; } SHAPES[] = {
+	{ 0x00, 0x20, 0, 0, 6 }, { 0x00, 0x21, 6, 0, 14 }, { 0x00, 0x22, 0, 0, 14 }, { 0x00, 0x23, 14, 0, 22 },
+	{ 0x10, 0x20, 0, 6, 8 }, { 0x10, 0x21, 6, 14, 16 }, { 0x10, 0x22, 0, 14, 16 }, { 0x10, 0x23, 14, 22, 24 },
+};
+
+/* The shortest legal message of a shape, general or tunnelled, with nodes and key id that are all 0x21: its length. */
+static size_t shaped(const struct shape *s, bool tunnelled, uint8_t *bytes)
+{
+	size_t length = s->body + (tunnelled ? 2u : 8u) + (s->key ? KABIZARLE_CHECK_BYTES : 0u);
+
+	memset(bytes, 0x21, length);
+	bytes[0] = s->low, bytes[1] = (uint8_t)(s->high + (tunnelled ? 4 : 0));
+	bytes[s->body] = tunnelled ? 1 : 0x11;
+	bytes[s->body + 1] = 0x45;
+	MUST(read_message(lend(bytes, length), length) == 0 && read_outer(lend(bytes, length), length) == 0);
+	return length;
+}
+
+/* The address fields of a message of a shape at fault, and every cut of it. */
+static void addresses_at_fault(const struct shape *s, const uint8_t *message, size_t length)
+{
+	for (size_t n = 0; n < length; n++)
+		refused(KABIZARLE_REFUSED_TOO_SHORT, n, message, n);
+	if (s->key) {
+		spoiled(KABIZARLE_REFUSED_KEY, s->key, message, length, s->key + 1u, 1, 0x30);
+		spoiled(KABIZARLE_REFUSED_KEY, s->key, message, length, s->key, 2, 0);
+	}
+	if (s->high & 2) {
+		spoiled(KABIZARLE_REFUSED_SOURCE, 6, message, length, 6, 8, 0);
+		spoiled(KABIZARLE_REFUSED_SOURCE, 6, message, length, 6, 8, 0xff);
+	}
+	if (s->destination)
+		spoiled(KABIZARLE_REFUSED_DESTINATION, s->destination, message, length, s->destination, 8, 0);
+}
+
+/* Every field of every shape at fault: the byte is the first of the field, wherever it stands. */
+static void fields_at_fault(void)
+{
+	uint8_t general[64], tunnelled[64];
+
+	for (const struct shape *s = SHAPES; s < SHAPES + LENGTH(SHAPES); s++) {
+		size_t n = shaped(s, false, general), m = shaped(s, true, tunnelled);
+
+		addresses_at_fault(s, general, n);
+		addresses_at_fault(s, tunnelled, m);
+		spoiled(KABIZARLE_REFUSED_TUNNEL, s->body, tunnelled, m, s->body, 1, 2);
+		spoiled(KABIZARLE_REFUSED_PACKET, s->body + 1u, tunnelled, m, s->body + 1u, 1, 0x55);
+		spoiled(KABIZARLE_REFUSED_EXCHANGE, s->body, general, n, s->body, 1, 0x01);
+		spoiled(KABIZARLE_REFUSED_EXCHANGE, s->body, general, n, s->body, 1, 0x91);
+		general[s->body] = 0x13; /* A, and no room for the acknowledged id */
+		refused_inside(KABIZARLE_REFUSED_TOO_SHORT, n, general, n);
+		general[1] -= 0x10;
+		spoiled(KABIZARLE_REFUSED_OLD_ASKS, s->body, general, n, s->body, 1, 0x13);
+		spoiled(KABIZARLE_REFUSED_OLD_ASKS, s->body, general, n, s->body, 1, 0x14);
+	}
+}
+
+/* Of several faults the one that comes first in the order decides, and with it the byte; it need not be the first in the message. */
+static void first_fault(void)
+{
+	uint8_t bytes[sizeof SECRET] = { 0x30, 0x3f };
+
+	refused(KABIZARLE_REFUSED_VERSION, 0, bytes, sizeof bytes);
+	bytes[1] = 0x1f;
+	refused(KABIZARLE_REFUSED_RESERVED, 0, bytes, sizeof bytes);
+	bytes[1] = 0x17;
+	refused(KABIZARLE_REFUSED_OLD_TUNNEL, 0, bytes, sizeof bytes);
+	bytes[1] = 0x13;
+	refused(KABIZARLE_REFUSED_ENCRYPT, 0, bytes, sizeof bytes);
+	bytes[0] = 0x10;
+	refused(KABIZARLE_REFUSED_TOO_SHORT, 51, bytes, 51);
+	refused(KABIZARLE_REFUSED_KEY, 22, bytes, sizeof bytes);
+	REFUSED_AT(15, 0, receive_by(0, 0, true, bytes, sizeof bytes, lent.out, 64));
+	bytes[23] = 0x10;
+	refused(KABIZARLE_REFUSED_SOURCE, 6, bytes, sizeof bytes);
+	bytes[6] = 2;
+	refused(KABIZARLE_REFUSED_DESTINATION, 14, bytes, sizeof bytes);
+	bytes[14] = 2, bytes[24] = 0x02;
+	refused(KABIZARLE_REFUSED_EXCHANGE, 24, bytes, 52);
+	bytes[24] = 0x12;
+	refused(KABIZARLE_REFUSED_OLD_ASKS, 24, bytes, 52);
+	bytes[1] = 0x23;
+	refused_inside(KABIZARLE_REFUSED_TOO_SHORT, 52, bytes, 52);
+	bytes[1] = 0x27;
+	refused(KABIZARLE_REFUSED_TUNNEL, 24, bytes, sizeof bytes);
 }
 
 /* Every cut of the messages: refused below the length that its fields need, taken from there on. */
 static void cuts(void)
 {
 	for (size_t n = 0; n < sizeof X; n++)
-		refused(KABIZARLE_REFUSED_TOO_SHORT, X, n);
-	MUST(kabizarle_read(lend(X, sizeof X), sizeof X, lent.fields) == 0);
+		refused(KABIZARLE_REFUSED_TOO_SHORT, n, X, n);
+	MUST(read_message(lend(X, sizeof X), sizeof X) == 0);
 	for (size_t n = 0; n < 8; n++)
-		refused(KABIZARLE_REFUSED_TOO_SHORT, TUNNEL, n);
-	MUST(kabizarle_read(lend(TUNNEL, 8), 8, lent.fields) == 0);
+		refused(KABIZARLE_REFUSED_TOO_SHORT, n, TUNNEL, n);
+	MUST(read_message(lend(TUNNEL, 8), 8) == 0);
 	for (size_t n = 0; n < sizeof SECRET; n++) {
 		const uint8_t *bytes = lend(SECRET, n);
 
 		scatter();
 		if (n < 52)
-			REFUSED(2, kabizarle_read_outer(bytes, n, lent.part));
+			REFUSED_AT(2, n, read_outer(bytes, n));
 		else
-			MUST(kabizarle_read_outer(bytes, n, lent.part) == 0 && lent.part[KABIZARLE_PART_START] == 24 && lent.part[KABIZARLE_PART_LENGTH] == n - 24);
+			MUST(read_outer(bytes, n) == 0 && lent.part[KABIZARLE_PART_START] == 24 && lent.part[KABIZARLE_PART_LENGTH] == n - 24);
 		if (n < 56)
-			REFUSED(2, kabizarle_read(bytes, n, lent.fields));
+			REFUSED_AT(2, n, read_message(bytes, n));
 		else
-			MUST(kabizarle_read(bytes, n, lent.fields) == 0 && lent.fields[KABIZARLE_PAYLOAD_LENGTH] == n - 56);
+			MUST(read_message(bytes, n) == 0 && lent.fields[KABIZARLE_PAYLOAD_LENGTH] == n - 56);
 	}
 }
 
@@ -170,20 +290,20 @@ static void cuts(void)
 static void empty_slices(void)
 {
 	scatter();
-	REFUSED(2, kabizarle_read_outer(NULL, 0, lent.part));
-	REFUSED(2, kabizarle_read(NULL, 0, lent.fields));
-	REFUSED(2, receive(NULL, 0));
-	REFUSED(2, receive(read_end, 0));
+	REFUSED_AT(2, 0, read_outer(NULL, 0));
+	REFUSED_AT(2, 0, read_message(NULL, 0));
+	REFUSED_AT(2, 0, receive(NULL, 0));
+	REFUSED_AT(2, 0, receive(read_end, 0));
 	MUST(kabizarle_unframe(NULL, 0, lent.frame) == 0);
 	MUST(lent.frame[0] == 2 && !lent.frame[1] && !lent.frame[2] && !lent.frame[3] && !lent.frame[4]);
 	REFUSED(19, kabizarle_frame(NULL, 0, NULL, 0, &lent.written));
 	MUST(kabizarle_frame(NULL, 0, lent.out, 2, &lent.written) == 0 && lent.written == 2 && lent.out[0] == 0 && lent.out[1] == 0);
-	MUST(kabizarle_read(X, sizeof X, lent.fields) == 0);
+	MUST(read_message(X, sizeof X) == 0);
 	REFUSED(19, kabizarle_write(lent.fields, NULL, 0, NULL, 0, NULL, 0, &lent.written));
 	MUST(kabizarle_write(lent.fields, NULL, 0, NULL, 0, lent.out, 30, &lent.written) == 0 && lent.written == 30);
 	start();
-	REFUSED(19, kabizarle_receive(OWN, 0, true, 0, X, sizeof X, lent.table, NULL, 0, lent.fields));
-	MUST(kabizarle_receive(OWN, SENDER, true, 0, TUNNEL, sizeof TUNNEL, lent.table, NULL, 0, lent.fields) == 0);
+	REFUSED_AT(19, 0, receive_by(OWN, 0, true, X, sizeof X, NULL, 0));
+	MUST(receive_by(OWN, SENDER, true, TUNNEL, sizeof TUNNEL, NULL, 0) == 0);
 	MUST(lent.fields[KABIZARLE_VERDICT] == KABIZARLE_NEW && lent.fields[KABIZARLE_REPLY_LENGTH] == 0);
 }
 
@@ -200,9 +320,9 @@ static void largest_lengths(void)
 		size_t length = TOO_LONG[i];
 
 		start();
-		REFUSED(1, kabizarle_read_outer(read_end, length, lent.part));
-		REFUSED(1, kabizarle_read(read_end, length, lent.fields));
-		REFUSED(1, receive(read_end, length));
+		REFUSED_AT(1, KABIZARLE_LONGEST, read_outer(read_end, length));
+		REFUSED_AT(1, KABIZARLE_LONGEST, read_message(read_end, length));
+		REFUSED_AT(1, KABIZARLE_LONGEST, receive(read_end, length));
 		REFUSED(1, kabizarle_frame(read_end, length, lent.out, sizeof lent.out, &lent.written));
 		MUST(kabizarle_unframe(lend(X, 2), length, lent.frame) == 0);
 		MUST(lent.frame[KABIZARLE_FRAME_WANTED] == (length < 0x2302 ? 0x2302 - length : 0));
@@ -219,7 +339,7 @@ static void largest_payloads(const uint8_t *message, size_t message_length)
 	const uint8_t *first = lend((const uint8_t[]){ 0x45 }, 1);
 
 	scatter();
-	MUST(kabizarle_read(message, message_length, lent.fields) == 0);
+	MUST(read_message(message, message_length) == 0);
 	size_t check = lent.fields[KABIZARLE_CHECK_LENGTH];
 	for (size_t i = 0; i < LENGTH(rooms); i++) {
 		for (size_t k = 0; k < LENGTH(TOO_LONG); k++) {
@@ -240,9 +360,9 @@ static void largest_rooms(void)
 	for (size_t i = 0; i < LENGTH(TOO_LONG); i++) {
 		start();
 		MUST(kabizarle_frame(X, sizeof X, write_end - sizeof X - 2, TOO_LONG[i], &lent.written) == 0 && lent.written == sizeof X + 2);
-		MUST(kabizarle_receive(OWN, 0, true, REPLY_ID, X, sizeof X, lent.table, write_end - sizeof REPLY, TOO_LONG[i], lent.fields) == 0);
+		MUST(receive_by(OWN, 0, true, X, sizeof X, write_end - sizeof REPLY, TOO_LONG[i]) == 0);
 		MUST(memcmp(write_end - sizeof REPLY, REPLY, sizeof REPLY) == 0);
-		MUST(kabizarle_read(lend(longest, sizeof longest), sizeof longest, lent.fields) == 0);
+		MUST(read_message(lend(longest, sizeof longest), sizeof longest) == 0);
 		MUST(lent.fields[KABIZARLE_PAYLOAD_LENGTH] == KABIZARLE_LONGEST - 14);
 		MUST(kabizarle_write(lent.fields, longest + 14, KABIZARLE_LONGEST - 14, NULL, 0, out, TOO_LONG[i], &lent.written) == 0);
 		MUST(lent.written == KABIZARLE_LONGEST && memcmp(out, longest, KABIZARLE_LONGEST) == 0);
@@ -258,18 +378,18 @@ static void places(void)
 	static const uint64_t tunnel[] = { 0x2400, 0, 6, 0, 0, 0, 0, 0, 0, 0, 7, 5, 12, 0, 0, 0 };
 
 	scatter();
-	MUST(kabizarle_read(lend(X, sizeof X), sizeof X, lent.fields) == 0 && memcmp(lent.fields, x, sizeof x) == 0);
-	MUST(kabizarle_read(lend(SECRET, sizeof SECRET), sizeof SECRET, lent.fields) == 0 && memcmp(lent.fields, secret, sizeof secret) == 0);
-	MUST(kabizarle_read(lend(TUNNEL, sizeof TUNNEL), sizeof TUNNEL, lent.fields) == 0 && memcmp(lent.fields, tunnel, sizeof tunnel) == 0);
-	MUST(kabizarle_read_outer(lend(X, sizeof X), sizeof X, lent.part) == 0 && lent.part[0] == 30 && lent.part[1] == 0);
-	MUST(kabizarle_read_outer(lend(SECRET, sizeof SECRET), sizeof SECRET, lent.part) == 0 && lent.part[0] == 24 && lent.part[1] == 35);
+	MUST(read_message(lend(X, sizeof X), sizeof X) == 0 && memcmp(lent.fields, x, sizeof x) == 0);
+	MUST(read_message(lend(SECRET, sizeof SECRET), sizeof SECRET) == 0 && memcmp(lent.fields, secret, sizeof secret) == 0);
+	MUST(read_message(lend(TUNNEL, sizeof TUNNEL), sizeof TUNNEL) == 0 && memcmp(lent.fields, tunnel, sizeof tunnel) == 0);
+	MUST(read_outer(lend(X, sizeof X), sizeof X) == 0 && lent.part[0] == 30 && lent.part[1] == 0);
+	MUST(read_outer(lend(SECRET, sizeof SECRET), sizeof SECRET) == 0 && lent.part[0] == 24 && lent.part[1] == 35);
 }
 
 /* A message that is read, written and read again: the same bytes, in exactly their room and in more, and refused in less. */
 static void there_and_back(const uint8_t *message, size_t length)
 {
 	scatter();
-	MUST(kabizarle_read(message, length, lent.fields) == 0);
+	MUST(read_message(message, length) == 0);
 	const uint8_t *payload = message + lent.fields[KABIZARLE_PAYLOAD_START], *check = message + lent.fields[KABIZARLE_CHECK_START];
 	size_t payload_length = lent.fields[KABIZARLE_PAYLOAD_LENGTH], check_length = lent.fields[KABIZARLE_CHECK_LENGTH];
 
@@ -299,7 +419,7 @@ static void refusals_of_writing(void)
 
 	for (size_t i = 0; i < LENGTH(cases); i++) {
 		scatter();
-		MUST(kabizarle_read(SECRET, sizeof SECRET, lent.fields) == 0);
+		MUST(read_message(SECRET, sizeof SECRET) == 0);
 		lent.fields[KABIZARLE_HEADER] = KABIZARLE_VERSION + KABIZARLE_SOURCED + KABIZARLE_DESTINED + KABIZARLE_ENCRYPTED;
 		lent.fields[KABIZARLE_FLAGS] = KABIZARLE_INITIATOR;
 		lent.fields[KABIZARLE_ACKNOWLEDGED] = 0;
@@ -307,18 +427,18 @@ static void refusals_of_writing(void)
 		lent.fields[cases[i].place] = cases[i].value;
 		REFUSED(cases[i].refusal, put(3, 20, sizeof lent.out));
 	}
-	MUST(kabizarle_read(SECRET, sizeof SECRET, lent.fields) == 0);
+	MUST(read_message(SECRET, sizeof SECRET) == 0);
 	REFUSED(14, put(3, 19, sizeof lent.out));
 	REFUSED(14, put(3, 0, sizeof lent.out));
-	MUST(kabizarle_read(TUNNEL, sizeof TUNNEL, lent.fields) == 0);
+	MUST(read_message(TUNNEL, sizeof TUNNEL) == 0);
 	REFUSED(2, put(0, 0, sizeof lent.out));
 	REFUSED(13, put(3, 0, sizeof lent.out)); /* its first byte is 0x10 */
 	for (size_t p = KABIZARLE_SOURCE; p <= KABIZARLE_ACKNOWLEDGED; p++) {
-		MUST(kabizarle_read(TUNNEL, sizeof TUNNEL, lent.fields) == 0);
+		MUST(read_message(TUNNEL, sizeof TUNNEL) == 0);
 		lent.fields[p] = 0x2001; /* a tunnelled message with no node has none of these fields */
 		REFUSED(14, kabizarle_write(lent.fields, TUNNEL + 7, 5, NULL, 0, lent.out, sizeof lent.out, &lent.written));
 	}
-	MUST(kabizarle_read(TUNNEL, sizeof TUNNEL, lent.fields) == 0);
+	MUST(read_message(TUNNEL, sizeof TUNNEL) == 0);
 	for (uint64_t bit = KABIZARLE_INITIATOR; bit <= KABIZARLE_WANTS; bit *= 2) {
 		lent.fields[KABIZARLE_FLAGS] = bit;
 		REFUSED(14, kabizarle_write(lent.fields, TUNNEL + 7, 5, NULL, 0, lent.out, sizeof lent.out, &lent.written));
@@ -335,7 +455,8 @@ static void wide_places(void)
 	uint64_t legal[KABIZARLE_FIELDS];
 
 	scatter();
-	MUST(kabizarle_read(SECRET, sizeof SECRET, legal) == 0);
+	MUST(read_message(SECRET, sizeof SECRET) == 0);
+	memcpy(legal, lent.fields, sizeof legal);
 	for (size_t i = 0; i < LENGTH(widths); i++) {
 		const uint64_t wide[] = { widths[i].most + 1, widths[i].most + 1 + legal[widths[i].place], (UINT64_C(1) << 63) + legal[widths[i].place], ALL_ONES };
 
@@ -363,7 +484,7 @@ static void wide_places(void)
 	lent.fields[KABIZARLE_SOURCE] = lent.fields[KABIZARLE_DESTINATION] = ALL_ONES - 1;
 	memcpy(legal, lent.fields, sizeof legal);
 	MUST(put(3, 20, 59) == 0 && lent.written == 59);
-	MUST(kabizarle_read(lent.out, 59, lent.fields) == 0 && memcmp(lent.fields, legal, sizeof legal) == 0);
+	MUST(read_message(lent.out, 59) == 0 && memcmp(lent.fields, legal, sizeof legal) == 0);
 }
 
 /* A framed message, its rooms, and every cut of the stream. */
@@ -405,20 +526,20 @@ static void receiving(void)
 	MUST(lent.table[0] == SENDER && lent.table[1] == (UINT64_C(1) << 48) + 5 && lent.table[2] == 0);
 	kept = lent;
 	uint8_t *out = write_end - sizeof REPLY;
-	MUST(kabizarle_receive(OWN, 0, false, REPLY_ID, X, sizeof X, lent.table, out, sizeof REPLY, lent.fields) == 0);
+	MUST(receive_by(OWN, 0, false, X, sizeof X, out, sizeof REPLY) == 0);
 	MUST(lent.fields[KABIZARLE_VERDICT] == KABIZARLE_DUPLICATE && memcmp(out, REPLY, sizeof REPLY) == 0);
 	MUST(memcmp(lent.table, kept.table, sizeof lent.table) == 0);
 	for (size_t room = 0; room < sizeof REPLY; room++)
-		REFUSED(19, kabizarle_receive(OWN, 0, true, REPLY_ID, X, sizeof X, lent.table, lent.out, room, lent.fields));
+		REFUSED_AT(19, 0, receive_by(OWN, 0, true, X, sizeof X, lent.out, room));
 	for (size_t room = 0; room < KABIZARLE_ACKNOWLEDGEMENT_BYTES; room++)
-		REFUSED(19, kabizarle_receive(OWN, 0, true, 0, SECRET, sizeof SECRET, lent.table, lent.out, room, lent.fields));
-	REFUSED(15, kabizarle_receive(0, 0, true, 0, X, sizeof X, lent.table, lent.out, 64, lent.fields));
-	REFUSED(15, kabizarle_receive(ALL_ONES, 0, true, 0, NULL, 0, lent.table, lent.out, 64, lent.fields));
-	REFUSED(16, kabizarle_receive(OWN + 1, 0, true, 0, X, sizeof X, lent.table, lent.out, 64, lent.fields));
-	REFUSED(17, kabizarle_receive(OWN, 0, true, 0, TUNNEL, sizeof TUNNEL, lent.table, lent.out, 64, lent.fields));
-	REFUSED(17, kabizarle_receive(OWN, ALL_ONES, true, 0, TUNNEL, sizeof TUNNEL, lent.table, lent.out, 64, lent.fields));
-	REFUSED(18, kabizarle_receive(OWN, 0, false, 0, SECRET, sizeof SECRET, lent.table, lent.out, 0, lent.fields));
-	MUST(kabizarle_receive(OWN, SENDER, false, 0, TUNNEL, sizeof TUNNEL, lent.table, NULL, 0, lent.fields) == 0 && (uint32_t)lent.table[1] == 6);
+		REFUSED_AT(19, 0, receive_by(OWN, 0, true, SECRET, sizeof SECRET, lent.out, room));
+	REFUSED_AT(15, 0, receive_by(0, 0, true, X, sizeof X, lent.out, 64));
+	REFUSED_AT(15, 0, receive_by(ALL_ONES, 0, true, NULL, 0, lent.out, 64));
+	REFUSED_AT(16, 0, receive_by(OWN + 1, 0, true, X, sizeof X, lent.out, 64));
+	REFUSED_AT(17, 0, receive_by(OWN, 0, true, TUNNEL, sizeof TUNNEL, lent.out, 64));
+	REFUSED_AT(17, 0, receive_by(OWN, ALL_ONES, true, TUNNEL, sizeof TUNNEL, lent.out, 64));
+	REFUSED_AT(18, 0, receive_by(OWN, 0, false, SECRET, sizeof SECRET, lent.out, 0));
+	MUST(receive_by(OWN, SENDER, false, TUNNEL, sizeof TUNNEL, NULL, 0) == 0 && (uint32_t)lent.table[1] == 6);
 	MUST(receive(SECRET, sizeof SECRET) == 0 && lent.fields[KABIZARLE_REPLY_LENGTH] == KABIZARLE_ACKNOWLEDGEMENT_BYTES && lent.table[3] == SENDER);
 	memcpy(other, X, sizeof X);
 	memset(other + 14, 0xff, 8);
@@ -438,10 +559,10 @@ static void full_table(void)
 		MUST(kabizarle_row(lent.table, i, lent.shown) == 0);
 		MUST(memcmp(lent.shown, (const uint64_t[]){ 1, SENDER - 0x0e + 0x20 + i, 0, 5, 0 }, sizeof lent.shown) == 0);
 	}
-	REFUSED(20, receive(X, sizeof X));
-	REFUSED(20, receive(SECRET, sizeof SECRET));
-	REFUSED(20, kabizarle_receive(OWN, SENDER, true, 0, TUNNEL, sizeof TUNNEL, lent.table, NULL, 0, lent.fields));
-	REFUSED(19, kabizarle_receive(OWN, 0, true, 0, X, sizeof X, lent.table, lent.out, 33, lent.fields));
+	REFUSED_AT(20, 0, receive(X, sizeof X));
+	REFUSED_AT(20, 0, receive(SECRET, sizeof SECRET));
+	REFUSED_AT(20, 0, receive_by(OWN, SENDER, true, TUNNEL, sizeof TUNNEL, NULL, 0));
+	REFUSED_AT(19, 0, receive_by(OWN, 0, true, X, sizeof X, lent.out, 33));
 	kept = lent;
 	MUST(receive(bytes, sizeof bytes) == 0 && lent.fields[KABIZARLE_VERDICT] == KABIZARLE_DUPLICATE);
 	MUST(memcmp(lent.table, kept.table, sizeof lent.table) == 0);
@@ -466,7 +587,7 @@ static void odd_tables(void)
 	MUST(receive(X, sizeof X) == 0 && lent.table[0] == SENDER && lent.table[1] == (UINT64_C(1) << 48) + 5 && lent.table[2] == 0);
 	MUST(memcmp(lent.table + 3, kept.table + 3, sizeof lent.table - 24) == 0);
 	memset(lent.table, 0xff, sizeof lent.table);
-	REFUSED(20, receive(X, sizeof X));
+	REFUSED_AT(20, 0, receive(X, sizeof X));
 	kept = lent;
 	MUST(kabizarle_remove(lent.table, ALL_ONES, UINT16_MAX) == 0);
 	memset(kept.table, 0, 24);
@@ -772,6 +893,8 @@ int main(void)
 		return 1;
 	}
 	refusals_of_reading();
+	fields_at_fault();
+	first_fault();
 	cuts();
 	empty_slices();
 	largest_lengths();

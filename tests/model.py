@@ -1,5 +1,6 @@
-"""The rules of the scope document, worked out plainly: bytes by slicing, refusals in the order in which they are listed, and every verdict
-afresh from the full list of accepted positions. It shares nothing with the crates; the tests hold the programs to it."""
+"""The rules of the scope document and of the requests, worked out plainly: bytes by slicing, refusals in the order in which they are listed, each
+with the byte at fault, and every verdict afresh from the full list of accepted positions. It shares nothing with the crates; the tests hold the
+programs to it."""
 
 LONGEST = 1232
 ANY = 2 ** 64 - 1
@@ -11,13 +12,18 @@ FIELDS = ('version', 'T', 'S', 'D', 'encrypt', 'id', 'source', 'destination', 'k
 
 
 class Refused(Exception):
-    def __init__(self, number):
-        self.number = number
+    """A refusal by its number, and the byte at fault: 0 where it is about no byte."""
+
+    def __init__(self, number, offset):
+        self.number, self.offset = number, offset
+
+    def __str__(self):
+        return 'refused %d %d' % (self.number, self.offset)
 
 
-def refuse(number, when):
+def refuse(number, when, offset=0):
     if when:
-        raise Refused(number)
+        raise Refused(number, offset)
 
 
 def low(data):
@@ -37,8 +43,8 @@ def nobody(node):
 def outer(data):
     """Refusals 1 to 9, then the value up to the key id and the place after it."""
     n = len(data)
-    refuse(1, n > LONGEST)
-    refuse(2, n < 2)
+    refuse(1, n > LONGEST, LONGEST)
+    refuse(2, n < 2, n)
     h = low(data[0:2])
     v = dict.fromkeys(FIELDS, 0)
     v['version'], v['encrypt'] = h >> 12, h >> 4 & 15
@@ -48,20 +54,17 @@ def outer(data):
     refuse(5, v['T'] and v['version'] == 1)
     refuse(6, v['encrypt'] not in (0, 1))
     at = 6 + 8 * v['S'] + 8 * v['D'] + 2 * v['encrypt']
-    refuse(2, n < at + (2 if v['T'] else 8) + 20 * v['encrypt'])
+    refuse(2, n < at + (2 if v['T'] else 8) + 20 * v['encrypt'], n)
     v['id'] = low(data[2:6])
-    place = 6
-    if v['S']:
-        v['source'] = high(data[place:place + 8])
-        place += 8
-    if v['D']:
-        v['destination'] = high(data[place:place + 8])
-        place += 8
-    if v['encrypt']:
-        v['key'] = low(data[place:place + 2])
-    refuse(7, v['encrypt'] and v['key'] >> 12 not in (1, 2))
-    refuse(8, v['S'] and nobody(v['source']))
-    refuse(9, v['D'] and v['destination'] == 0)
+    place, starts = 6, {}
+    for field, present, width in (('source', v['S'], 8), ('destination', v['D'], 8), ('key', v['encrypt'], 2)):
+        if present:
+            starts[field], part = place, data[place:place + width]
+            v[field] = low(part) if field == 'key' else high(part)
+            place += width
+    refuse(7, v['encrypt'] and v['key'] >> 12 not in (1, 2), starts.get('key'))
+    refuse(8, v['S'] and nobody(v['source']), starts.get('source'))
+    refuse(9, v['D'] and v['destination'] == 0, starts.get('destination'))
     return v, at
 
 
@@ -70,14 +73,14 @@ def read(data):
     v, at = outer(data)
     end = len(data) - 20 * v['encrypt']
     if v['T']:
-        refuse(12, data[at] != 1)
-        refuse(13, data[at + 1] >> 4 not in (4, 6))
+        refuse(12, data[at] != 1, at)
+        refuse(13, data[at + 1] >> 4 not in (4, 6), at + 1)
         return v, data[at + 1:end], data[end:]
     x = data[at]
-    refuse(10, not x >> 4 & 1 or x & 0xe8)
+    refuse(10, not x >> 4 & 1 or x & 0xe8, at)
     v['I'], v['A'], v['R'] = x & 1, x >> 1 & 1, x >> 2 & 1
-    refuse(11, v['version'] == 1 and (v['A'] or v['R']))
-    refuse(2, v['A'] and end < at + 12)
+    refuse(11, v['version'] == 1 and (v['A'] or v['R']), at)
+    refuse(2, v['A'] and end < at + 12, len(data))
     v['type'], v['exchange'], v['profile'] = data[at + 1], low(data[at + 2:at + 4]), low(data[at + 4:at + 8])
     if v['A']:
         v['acknowledged'] = low(data[at + 8:at + 12])
@@ -243,7 +246,7 @@ def listing(data):
             new, v, _ = gateway.receive(0x0200000000000001, 0, 1, 0, message, 64)
             said = '%s %d' % ('new' if new else 'duplicate', v['id'])
         except Refused as r:
-            said = 'refused %d' % r.number
+            said = str(r)
         lines.append('%d %s\n' % (len(lines) + 1, said))
         data = rest
 
@@ -279,7 +282,7 @@ class Conform:
         try:
             out = make()
         except Refused as r:
-            return 'refused %d %s' % (r.number, after(room, b''))
+            return '%s %s' % (r, after(room, b''))
         return '%s %d %s' % (word, len(out), after(room, out))
 
     def line(self, command):
@@ -290,13 +293,13 @@ class Conform:
             try:
                 v, payload, check = read(body)
             except Refused as r:
-                return 'refused %d - -' % r.number
+                return '%s - -' % r
             return 'taken %s %s %s' % (shown(v), text(payload), text(check))
         if name == 2:
             try:
                 v, at = outer(body)
             except Refused as r:
-                return 'refused %d' % r.number
+                return str(r)
             start = at if v['encrypt'] else len(body)
             return 'outer %d %d' % (start, len(body) - start)
         if name == 3:
@@ -336,7 +339,7 @@ class Conform:
             try:
                 self.gateway.remove(high(body[0:8]), low(body[8:10]))
             except Refused as r:
-                return 'refused %d' % r.number
+                return str(r)
             return 'removed'
         if name == 11:
             rows = [(i,) + r.fields() for i, r in enumerate(self.gateway.rows)]
@@ -350,7 +353,7 @@ class Conform:
             try:
                 return 'restored %d' % self.gateway.restore(body)
             except Refused as r:
-                return 'refused %d' % r.number
+                return str(r)
         return 'bad'
 
     def record(self, body):
@@ -363,7 +366,7 @@ class Conform:
         try:
             new, v, ack = self.gateway.receive(high(body[0:8]), high(body[8:16]), body[16], low(body[17:21]), body[23:], room)
         except Refused as r:
-            return 'refused %d %s' % (r.number, after(room, b''))
+            return '%s %s' % (r, after(room, b''))
         return '%s %d %s %s' % ('new' if new else 'duplicate', len(ack), after(room, ack), shown(v))
 
 

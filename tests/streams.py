@@ -1,6 +1,7 @@
-"""Inputs for the programs `conform` and `listing`, made with a fixed seed: messages that are legal, nearly legal and rubbish, cut at every
-length, every single-bit change of message X, ids at every edge of the rule of positions, tables handed in as no message could leave them, and saved
-rows, as they stand and with one or two faults."""
+"""Inputs for the programs `conform` and `listing`, made with a fixed seed: messages that are legal, nearly legal and rubbish, of every shape with each
+field at fault and cut at every length, every single-bit change of message X, ids at every edge of the rule of positions, tables handed in as no message
+could leave them, and saved rows, as they stand and with one or two faults."""
+import itertools
 import random
 
 import model
@@ -71,8 +72,9 @@ class Maker:
                 data[at] ^= 1 << self.random.randrange(8)
         elif fault < 0.33 and v['S']:
             data[6:14] = self.random.choice((bytes(8), b'\xff' * 8))
-        elif fault < 0.36 and v['D'] and v['S']:
-            data[14:22] = bytes(8)
+        elif fault < 0.36 and v['D']:
+            at = 6 + 8 * v['S']
+            data[at:at + 8] = bytes(8)
         elif fault < 0.38:
             data += bytes(self.random.choice((1233, 1300)) - len(data)) if len(data) < 1233 else b''
         elif fault < 0.42 and v['T']:
@@ -145,6 +147,50 @@ def packed(v):
     return out
 
 
+def shapes():
+    """A legal value of every shape: of each version, with and without source, destination and encryption, tunnelled or not, with and without A."""
+    for version, T, S, D, encrypt, A in itertools.product((1, 2), (0, 1), (0, 1), (0, 1), (0, 1), (0, 1)):
+        if version == 2 and not (T and A) or not (T or A):
+            yield dict(dict.fromkeys(model.FIELDS, 0), version=version, T=T, S=S, D=D, encrypt=encrypt, A=A, id=5, source=S * (OWN + 13),
+                       destination=D * OWN, key=encrypt * 0x2001)
+
+
+def encoded(v):
+    return model.encode(v, b'\x45' if v['T'] else b'', bytes(20 * v['encrypt']))
+
+
+def spoiled(v):
+    """The bytes of a value, and those with each one and each two of its fields at fault."""
+    body = 6 + 8 * v['S'] + 8 * v['D'] + 2 * v['encrypt']
+    faults = [(body - 2, b'\x01\x30')] if v['encrypt'] else []
+    faults += [(6, bytes(8)), (6, b'\xff' * 8)] if v['S'] else []
+    faults += [(6 + 8 * v['S'], bytes(8))] if v['D'] else []
+    faults += [(body, b'\x02'), (body + 1, b'\x55')] if v['T'] else [(body, b'\x03')]
+    faults += [(body, b'\x12'), (body, b'\x14')] if v['version'] == 1 else []
+    made = {}
+    for chosen in [()] + [(f,) for f in faults] + list(itertools.combinations(faults, 2)):
+        data = bytearray(encoded(v))
+        for at, part in chosen:
+            data[at:at + len(part)] = part
+        made[bytes(data)] = True
+    return list(made)
+
+
+def received(data):
+    """The command that receives a message as the listing does."""
+    return command(9, eight(OWN), eight(0), b'\x01', four(0), two(64), data)
+
+
+def misread():
+    """Every shape with its fields at fault, and cut at every length: read, outer reading, received."""
+    out = []
+    for v in shapes():
+        whole = encoded(v)
+        for data in spoiled(v) + [whole[:n] for n in range(len(whole))]:
+            out += [command(1, data), command(2, data), received(data)]
+    return out
+
+
 def fixed():
     """The commands that are not left to chance."""
     out = [command(1, bytes.fromhex(h)) for h in ('0020', '0030', '0120', '0028', '0014', '2020')]
@@ -159,7 +205,7 @@ def fixed():
                 for step in EDGES:
                     row = bytes([1]) + eight(14) + two(key) + four(highest) + two(marks)
                     out.append(command(6, row, four((highest + step) % 2 ** 32)))
-    return out + restores()
+    return out + misread() + restores()
 
 
 def restores():

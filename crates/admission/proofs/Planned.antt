@@ -19,9 +19,8 @@ differ e = let z : _≡_ {A = ℕ} 0 1 = cc in let w : ⊥ = omega arith in absu
 
 -- the reason is want of room, or another
 module _ (w : Writing) (r : Refusal) (e : w ≡ Refused r) where
-  pub for-room : r .number ≡ 19 → Refused r ≡ reasoned w
-  for-room h =
-      sym (ap reasoned e ∙ ap (λ (k : ℕ). Refused (refusal k)) (ap (λ (b : Bool). cond b 19 22) (eq-eqb (r .number) 19 h) ∙ sym h))
+  pub for-room : r .number ≡ 19 → Refused (refusal 19) ≡ reasoned w
+  for-room h = sym (ap reasoned e ∙ ap (λ (b : Bool). Refused (refusal (cond b 19 22))) (eq-eqb (r .number) 19 h))
 
   pub for-another : (r .number ≡ 19 → ⊥) → Refused (refusal 22) ≡ reasoned w
   for-another h = sym (ap reasoned e ∙ ap (λ (b : Bool). Refused (refusal (cond b 19 22))) (ne-eqb (r .number) 19 h))

@@ -1,11 +1,11 @@
 -- Letting a message in whose nodes and check are good: where its name has its row, 22, 19 and 20, and what it leaves in the table and in the
 -- buffer ("Order", "Rows and verdicts", "Acknowledgement"). Assumes nothing.
-use Prim.Native.Nat.{ℕ, zero, suc}
+use Prim.Native.Nat.{ℕ}
 use mathlib.Core.Bool.{Bool, _&&_, cond}
 use mathlib.Core.List.{List, [], _∷_, _++_}
-use lib.Dec.{ltb, leb}
+use lib.Dec.{eqb, ltb, leb}
 use lib.ListN.{drop}
-use Rattle.message.specs.Order.{Condition, _when_, first}
+use Rattle.message.specs.Order.{Condition, _when_, firstRefusal}
 use Rattle.message.specs.Layout.{only}
 use Rattle.message.specs.Refusals.{total}
 use Rattle.message.specs.Answers.{refusal}
@@ -15,6 +15,7 @@ use Rattle.window.specs.declared.Rolled.{Rolled}
 use Rattle.window.specs.declared.Verdict.{Verdict}
 use Rattle.window.specs.declared.Verdict.the-variants as Verdict
 use Rattle.message.specs.declared.value.Message.{Message}
+use Rattle.message.specs.declared.answers.Refusal.{Refusal}
 use Rattle.message.specs.declared.answers.Head.{Head}
 use Rattle.message.specs.declared.answers.Writing.{Writing}
 use Rattle.message.specs.declared.answers.Writing.the-variants.{Written, Refused}
@@ -56,20 +57,23 @@ admissionOrder value room m full =
 
 -- ---- the answer, the table and the buffer
 
--- the verdict with the value, its head and the acknowledgement's length, or the refusal
-abbrev pub received : ℕ → Verdict → Message → Head → ℕ → Received
-received zero Verdict.New m h len = Received.New m h len
-received zero Verdict.Duplicate m h len = Received.Duplicate m h len
-received (suc n) verdict m h len = Received.Refused (refusal (suc n))
+-- the verdict with the value, its head and the acknowledgement's length
+abbrev pub withVerdict : Verdict → Message → Head → ℕ → Received
+withVerdict Verdict.New m h len = Received.New m h len
+withVerdict Verdict.Duplicate m h len = Received.Duplicate m h len
 
--- the answer to a message, by the number of the first refusal, 0 for none, and the verdict; the acknowledgement's length is 0 where R is not set
-unfoldable pub answerOf : ℕ → Verdict → Message → Message → Head → Received
-answerOf number verdict value m h = received number verdict m h (only (m .wants) (total value []))
+-- the same, or the refusal
+abbrev pub received : Refusal → Verdict → Message → Head → ℕ → Received
+received r verdict m h len = cond (eqb (r .number) 0) (withVerdict verdict m h len) (Received.Refused r)
+
+-- the answer to a message, by the first refusal, of number 0 for none, and the verdict; the acknowledgement's length is 0 where R is not set
+unfoldable pub answerOf : Refusal → Verdict → Message → Message → Head → Received
+answerOf r verdict value m h = received r verdict m h (only (m .wants) (total value []))
 
 -- the answer to a message of this sender
 abbrev pub admitOf : Message → ℕ → ℕ → Message → Head → List ℕ → Received
 admitOf value room sender m h t =
-    answerOf (first (admissionOrder value room m (noRow t sender (m .key)))) (verdictIn t sender m) value m h
+    answerOf (firstRefusal (admissionOrder value room m (noRow t sender (m .key)))) (verdictIn t sender m) value m h
 
 -- the answer where all rows are in use, by what the message would be answered with: 22 and 19 stand before 20
 abbrev pub fullOf : Writing → Received

@@ -7,7 +7,7 @@ use message::Message;
 use message::Refusal;
 use message::Writing;
 
-// The writer's answer with its reason: for want of room, or any other.
+// The writer's answer with its reason: for want of room, or any other; at no byte, whatever it was.
 fn with_reason(answer: Writing) -> Writing
     ensures { λ r. ⌜ r ≡ reasoned answer ⌝ }
 {
@@ -15,10 +15,14 @@ fn with_reason(answer: Writing) -> Writing
         Writing::Written(length) => Writing::Written(length),
         Writing::Refused(refusal) => {
             if refusal.number == Refusal::NO_ROOM {
-                return Writing::Refused(refusal);
+                return Writing::Refused(Refusal {
+                    number: Refusal::NO_ROOM,
+                    offset: 0,
+                });
             }
             Writing::Refused(Refusal {
                 number: Refusal::UNWRITABLE,
+                offset: 0,
             })
         }
     }

@@ -25,6 +25,7 @@ fn full(planned: Writing) -> Received
         Writing::Refused(refusal) => Received::Refused(refusal),
         Writing::Written(_) => Received::Refused(Refusal {
             number: Refusal::FULL,
+            offset: 0,
         }),
     }
 }

@@ -24,7 +24,7 @@ pub(crate) fn read(message: &[u8]) {
             print::word(b"taken");
             print::value(m);
         }
-        Reading::Refused(refusal) => print::refused(refusal.number),
+        Reading::Refused(refusal) => print::refused(refusal),
     }
     print::string(parts::payload(message, reading));
     print::string(parts::check(message, reading));
@@ -38,7 +38,7 @@ pub(crate) fn outer(message: &[u8]) {
             print::number(start as u64);
             print::number(len as u64);
         }
-        OuterReading::Refused(refusal) => print::refused(refusal.number),
+        OuterReading::Refused(refusal) => print::refused(refusal),
     }
 }
 
@@ -49,7 +49,7 @@ pub(crate) fn written(word: &[u8], answer: Writing, buffer: &[u8]) {
             print::word(word);
             print::number(n as u64);
         }
-        Writing::Refused(refusal) => print::refused(refusal.number),
+        Writing::Refused(refusal) => print::refused(refusal),
     }
     print::string(buffer);
 }

@@ -1,6 +1,7 @@
 // The fields of a line, each with a space before it, on standard output.
 use libc::STDOUT_FILENO;
 use message::Message;
+use message::Refusal;
 
 // A word at the front of a line, or the end of one.
 pub(crate) fn word(text: &[u8]) {
@@ -90,8 +91,9 @@ pub(crate) fn value(m: Message) {
     exchange(m);
 }
 
-// A refusal, at the front of a line.
-pub(crate) fn refused(number: u8) {
+// A refusal with its number and its offset, at the front of a line.
+pub(crate) fn refused(refusal: Refusal) {
     word(b"refused");
-    number8(number);
+    number8(refusal.number);
+    number(refusal.offset as u64);
 }

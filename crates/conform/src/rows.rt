@@ -76,7 +76,7 @@ fn received(answer: Received, buffer: &[u8]) {
             print::value(m);
         }
         Received::Refused(refusal) => {
-            print::refused(refusal.number);
+            print::refused(refusal);
             print::string(buffer);
         }
     }
@@ -110,7 +110,7 @@ pub(crate) fn remove(command: &[u8], table: &mut [u64; WORDS]) {
     }
     match reception::remove(table, body::node(command, 0), body::word(command, 8)) {
         Removed::Done => print::word(b"removed"),
-        Removed::Refused(refusal) => print::refused(refusal.number),
+        Removed::Refused(refusal) => print::refused(refusal),
     }
 }
 

@@ -22,6 +22,6 @@ pub(crate) fn restore(bytes: &[u8], table: &mut [u64; WORDS]) {
             print::word(b"restored");
             print::number(count as u64);
         }
-        Restored::Refused(refusal) => print::refused(refusal.number),
+        Restored::Refused(refusal) => print::refused(refusal),
     }
 }

@@ -9,5 +9,6 @@ pub mod ValueBack
 pub mod WriteRead
 pub mod Framing
 pub mod Outer
+pub mod Offsets
 pub mod Outcomes
 pub mod Promises

@@ -1,22 +1,28 @@
 -- Where the protected part of a message lies. Assumes nothing.
-use Prim.Native.Nat.{ℕ, zero, suc, _+_, _-_, _≤_}
+use Prim.Native.Nat.{ℕ, _+_, _-_, _≤_}
 use mathlib.Core.Path.{_≡_, refl, sym, ap, _∙_}
 use mathlib.Core.Bool.{Bool, true, false, cond}
 use mathlib.Core.List.{List}
 use native.Mathlib.Omega.{arith}
+use borrow.Author.Tests.{eqb-true}
+use lib.Dec.{eqb}
 use lib.ListN.{length}
 use Rattle.message.specs.Order.{first}
 use Rattle.message.specs.Layout.{only, encrypted, bodyOf, fixedLength}
 use Rattle.message.specs.Value.{addressOf, exchangedBy, messageOf}
 use Rattle.message.specs.Answers.{outerReading}
-use Rattle.message.specs.declared.answers.OuterReading.the-variants.{Protected}
+use Rattle.message.specs.declared.answers.Refusal.{Refusal}
+use Rattle.message.specs.declared.answers.OuterReading.the-variants.{Protected, Refused}
 use Rattle.outer.specs.Outer.{outerOrder, startOf}
 use Rattle.outer.proofs.Begun.{outer-fixed}
 
 -- an answer with a part was made of no refusal and that part
-pub outer-place : (k s l start len : ℕ) → outerReading k s l ≡ Protected start len → (k ≡ 0) × (s ≡ start) × (l ≡ len)
-outer-place zero s l start len e = (refl, cc, cc)
-outer-place (suc k) s l start len e = let z : _≡_ {A = ℕ} 0 1 = cc in let w : ⊥ = omega arith in absurd w
+pub outer-place : (r : Refusal) (s l start len : ℕ) → outerReading r s l ≡ Protected start len → (r .number ≡ 0) × (s ≡ start) × (l ≡ len)
+outer-place r s l start len e = let p = go (eqb (r .number) 0) e in (eqb-true _ _ (p .0), p .1, p .2)
+  where
+    go : (b : Bool) → cond b (Protected s l) (Refused r) ≡ Protected start len → (b ≡ true) × (s ≡ start) × (l ≡ len)
+    go true e = (refl, cc, cc)
+    go false e = let z : _≡_ {A = ℕ} 0 1 = cc in let w : ⊥ = omega arith in absurd w
 
 -- the part of len bytes from start on, for the bytes of a message
 pub record Protects (bytes : List ℕ) (start len : ℕ) : Type 0 where

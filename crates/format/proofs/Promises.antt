@@ -5,20 +5,23 @@ pub use Rattle.format.proofs.Outcomes.{one-read, one-read-outer, one-pa
 -- The value that bytes say, and so every value that reading takes, is within the types of its fields.
 pub use Rattle.format.proofs.Sized.{sized-of, read-is-sized}
 use Prim.Native.Nat.{ℕ, zero, suc, _+_, _-_, _≤_, _<_}
-use mathlib.Core.Path.{_≡_, refl, sym, ap, ap₂, _∙_}
+use mathlib.Core.Path.{_≡_, refl, sym, ap, ap₂, subst, _∙_}
 use mathlib.Core.Bool.{Bool, true, false, cond}
 use mathlib.Core.List.{List, _++_}
 use native.Mathlib.Nat.{le-refl}
 use native.Mathlib.Omega.{arith}
+use borrow.Author.Tests.{eqb-false}
+use lib.Dec.{eqb}
 use lib.ListN.{length, take, drop}
 use lib.Seq.{take-at}
 use Rattle.wire.proofs.Digits.{AllBytes}
-use Rattle.message.specs.Order.{Condition, first}
+use Rattle.message.specs.Order.{Condition, firstRefusal, first}
 use Rattle.message.specs.Layout.{only, checkBytes, bodyAt, encrypted, checkLength, headLength, fixedLength}
 use Rattle.message.specs.Value.{messageOf, bytesOf}
 use Rattle.message.specs.Refusals.{strayAddress, strayExchange, total}
-use Rattle.message.specs.Answers.{refusal, headOf, asTaken, reading, outerReading, writing, readingNumber, outerNumber, writingNumber, bufferAfter}
+use Rattle.message.specs.Answers.{refusal, headOf, asTaken, reading, outerReading, writing, writingNumber, bufferAfter}
 use Rattle.message.specs.declared.value.Message.{Message}
+use Rattle.message.specs.declared.answers.Refusal.{Refusal}
 use Rattle.message.specs.declared.answers.Head.{Head}
 use Rattle.message.specs.declared.answers.Reading.{Reading}
 use Rattle.message.specs.declared.answers.Reading.the-variants as Reading
@@ -27,12 +30,15 @@ use Rattle.message.specs.declared.answers.OuterReading.the-variants as OuterRea
 use Rattle.message.specs.declared.answers.Writing.{Writing}
 use Rattle.message.specs.declared.answers.Writing.the-variants as Writing
 use Rattle.message.specs.declared.answers.Unframed.the-variants.{Whole, Incomplete}
-use Rattle.message.proofs.Order.{FirstToHold, first-none, first-holds, holds-first, first-hit, first-pass}
+use Rattle.message.proofs.Order.{numberOf, FirstToHold, first-none, refusal-none, first-holds, holds-first, number-first, first-number, first-hit, first-pass}
+use Rattle.message.proofs.Writings.{at-no-byte}
 use Rattle.message.proofs.Lengths.{length-bytes}
 use Rattle.outer.specs.Outer.{outerOrder, startOf, outerOf}
 use Rattle.reader.specs.Reading.{bodyOrder, readingOrder, Legal, readOf}
 use Rattle.parts.specs.Parts.{payloadOf, checkOf}
 use Rattle.outer.proofs.Begun.{outer-numbered}
+use Rattle.outer.proofs.Answers.{outer-hit}
+use Rattle.reader.proofs.Readings.{reading-hit}
 use Rattle.reader.proofs.Clear.{taken-legal, taken, head-taken}
 use Rattle.judge.specs.Writing.{writingOrder, Writable, writeOf}
 use Rattle.judge.proofs.Clear.{written-legal, written}
@@ -42,6 +48,7 @@ use Rattle.format.proofs.Accepted.{accept}
 use Rattle.format.proofs.Sized.{Sized}
 use Rattle.format.proofs.WriteRead.{SameRead, write-read}
 use Rattle.format.proofs.Framing as framing
+use Rattle.format.proofs.Offsets.{AtFault, at-fault, within}
 use Rattle.format.proofs.Outer.{Protects, outer-place, protects}
 
 -- ---- taken exactly when legal
@@ -49,7 +56,7 @@ use Rattle.format.proofs.Outer.{Protects, outer-place, protects}
 -- Bytes are taken exactly when none of the conditions holds, and then with the value that the fields say and its head.
 pub taken-when-legal : (bytes : List ℕ) → Legal bytes → readOf bytes ≡ asTaken (messageOf bytes)
 unfolding readOf
-taken-when-legal bytes h = ap (λ (n : ℕ). reading n (messageOf bytes)) (first-none (readingOrder bytes) h)
+taken-when-legal bytes h = ap (λ (r : Refusal). reading r (messageOf bytes)) (refusal-none (readingOrder bytes) h)
 
 pub legal-when-taken : (bytes : List ℕ) (m : Message) (h : Head) → readOf bytes ≡ Reading.Taken m h → Legal bytes × (messageOf bytes ≡ m) × (h ≡ headOf m)
 legal-when-taken bytes m h e = (taken-legal bytes m e, taken bytes m e .0, head-taken bytes m h e)
@@ -80,77 +87,110 @@ acknowledged-id-adds-4 m t = omega (arith, ap (λ (b : Bool). cond b 1 (1 + 1 + 
 
 -- ---- each refusal exactly when its condition is the first in its order to hold
 
--- an answer made of a number is a refusal by that number, and by no other
-reading-number : (k n : ℕ) (m : Message) → reading k m ≡ Reading.Refused (refusal n) → (k ≡ n) × (0 < n)
-reading-number zero n m e = let z : _≡_ {A = ℕ} 0 1 = cc in let w : ⊥ = omega arith in absurd w
-reading-number (suc k) n m e = let f : suc k ≡ n = ap readingNumber e in (f, omega arith)
+-- a number above 0 is not 0
+above : {n : ℕ} → 0 < n → n ≡ 0 → ⊥
+above l z = omega arith
 
-outer-number : (k n start len : ℕ) → outerReading k start len ≡ OuterReading.Refused (refusal n) → (k ≡ n) × (0 < n)
-outer-number zero n start len e = let z : _≡_ {A = ℕ} 0 1 = cc in let w : ⊥ = omega arith in absurd w
-outer-number (suc k) n start len e = let f : suc k ≡ n = ap outerNumber e in (f, omega arith)
+-- a number of which the test for 0 says no is above 0
+not-none : (r q : Refusal) → r ≡ q → eqb (r .number) 0 ≡ false → 0 < q .number
+not-none r q e f = go (q .number) (λ z. eqb-false _ _ f (ap numberOf e ∙ z))
+  where
+    go : (n : ℕ) → (n ≡ 0 → ⊥) → 0 < n
+    go zero h = absurd (h refl)
+    go (suc n) h = omega arith
+
+-- an answer made of a refusal is that refusal, and its number is not 0
+reading-refusal : (r q : Refusal) (m : Message) → reading r m ≡ Reading.Refused q → (r ≡ q) × (0 < q .number)
+reading-refusal r q m e = let p = go (eqb (r .number) 0) e in (p .0, not-none r q (p .0) (p .1))
+  where
+    go : (b : Bool) → cond b (asTaken m) (Reading.Refused r) ≡ Reading.Refused q → (r ≡ q) × (b ≡ false)
+    go true e = let z : _≡_ {A = ℕ} 0 1 = cc in let w : ⊥ = omega arith in absurd w
+    go false e = (cc, refl)
+
+outer-refusal : (r q : Refusal) (start len : ℕ) → outerReading r start len ≡ OuterReading.Refused q → (r ≡ q) × (0 < q .number)
+outer-refusal r q start len e = let p = go (eqb (r .number) 0) e in (p .0, not-none r q (p .0) (p .1))
+  where
+    go : (b : Bool) → cond b (OuterReading.Protected start len) (OuterReading.Refused r) ≡ OuterReading.Refused q → (r ≡ q) × (b ≡ false)
+    go true e = let z : _≡_ {A = ℕ} 0 1 = cc in let w : ⊥ = omega arith in absurd w
+    go false e = (cc, refl)
 
 writing-number : (k n len : ℕ) → writing k len ≡ Writing.Refused (refusal n) → (k ≡ n) × (0 < n)
 writing-number zero n len e = let z : _≡_ {A = ℕ} 0 1 = cc in let w : ⊥ = omega arith in absurd w
 writing-number (suc k) n len e = let f : suc k ≡ n = ap writingNumber e in (f, omega arith)
 
 -- and a number that is not 0 makes that refusal
-reading-hit : (n : ℕ) (m : Message) → 0 < n → reading n m ≡ Reading.Refused (refusal n)
-reading-hit zero m h = let z : ⊥ = omega arith in absurd z
-reading-hit (suc n) m h = refl
-
-outer-hit : (n start len : ℕ) → 0 < n → outerReading n start len ≡ OuterReading.Refused (refusal n)
-outer-hit zero start len h = let z : ⊥ = omega arith in absurd z
-outer-hit (suc n) start len h = refl
-
 writing-hit : (n len : ℕ) → 0 < n → writing n len ≡ Writing.Refused (refusal n)
 writing-hit zero len h = let z : ⊥ = omega arith in absurd z
 writing-hit (suc n) len h = refl
 
 -- the first condition to hold, and its number is not 0
-found : (n : ℕ) (order : List Condition) → (first order ≡ n) × (0 < n) → FirstToHold n order
-found zero order h = let l : 0 < 0 = h .1 in let z : ⊥ = omega arith in absurd z
-found (suc n) order h = holds-first n order (h .0)
+found : (r : Refusal) (order : List Condition) → (firstRefusal order ≡ r) × (0 < r .number) → FirstToHold r order
+found r order h = holds-first r order (above (h .1)) (h .0)
 
-module _ (bytes : List ℕ) (n : ℕ) where
+-- Number and offset are those of that condition.
+module _ (bytes : List ℕ) (r : Refusal) where
   -- Reading.
-  pub reading-refused-first : readOf bytes ≡ Reading.Refused (refusal n) → FirstToHold n (readingOrder bytes)
+  pub reading-refused-first : readOf bytes ≡ Reading.Refused r → FirstToHold r (readingOrder bytes)
   unfolding readOf
-  reading-refused-first e = found n (readingOrder bytes) (reading-number _ n (messageOf bytes) e)
+  reading-refused-first e = found r (readingOrder bytes) (reading-refusal _ r (messageOf bytes) e)
 
-  pub reading-first-refused : 0 < n → FirstToHold n (readingOrder bytes) → readOf bytes ≡ Reading.Refused (refusal n)
+  pub reading-first-refused : 0 < r .number → FirstToHold r (readingOrder bytes) → readOf bytes ≡ Reading.Refused r
   unfolding readOf
-  reading-first-refused l w = ap (λ (k : ℕ). reading k (messageOf bytes)) (first-holds n (readingOrder bytes) w) ∙ reading-hit n (messageOf bytes) l
+  reading-first-refused l w = ap (λ (q : Refusal). reading q (messageOf bytes)) (first-holds r (readingOrder bytes) w) ∙ reading-hit r (messageOf bytes) (above l)
 
   -- Outer reading: its order is the front of reading's.
-  pub outer-refused-first : outerOf bytes ≡ OuterReading.Refused (refusal n) → FirstToHold n (outerOrder bytes (messageOf bytes))
+  pub outer-refused-first : outerOf bytes ≡ OuterReading.Refused r → FirstToHold r (outerOrder bytes (messageOf bytes))
   unfolding outerOf
-  outer-refused-first e = found n (outerOrder bytes (messageOf bytes)) (outer-number _ n _ _ e)
+  outer-refused-first e = found r (outerOrder bytes (messageOf bytes)) (outer-refusal _ r _ _ e)
 
-  pub outer-first-refused : 0 < n → FirstToHold n (outerOrder bytes (messageOf bytes)) → outerOf bytes ≡ OuterReading.Refused (refusal n)
+  pub outer-first-refused : 0 < r .number → FirstToHold r (outerOrder bytes (messageOf bytes)) → outerOf bytes ≡ OuterReading.Refused r
   unfolding outerOf
   outer-first-refused l w =
-      ap (λ (k : ℕ). outerReading k (startOf bytes (messageOf bytes)) (length bytes - startOf bytes (messageOf bytes))) (first-holds n (outerOrder bytes (messageOf bytes)) w)
-      ∙ outer-hit n _ _ l
+      ap (λ (q : Refusal). outerReading q (startOf bytes (messageOf bytes)) (length bytes - startOf bytes (messageOf bytes))) (first-holds r (outerOrder bytes (messageOf bytes)) w)
+      ∙ outer-hit r _ _ (above l)
 
 -- Writing.
 module _ (m : Message) (payload check : List ℕ) (room n : ℕ) where
-  pub writing-refused-first : writeOf m payload check room ≡ Writing.Refused (refusal n) → FirstToHold n (writingOrder m payload check room)
-  unfolding writeOf
-  writing-refused-first e = found n (writingOrder m payload check room) (writing-number _ n (total m payload) e)
+  pub writing-refused-first : writeOf m payload check room ≡ Writing.Refused (refusal n) → FirstToHold (refusal n) (writingOrder m payload check room)
+  unfolding writeOf writingOrder
+  writing-refused-first e = number-first n (writingOrder m payload check room) refl (writing-number _ n (total m payload) e)
 
-  pub writing-first-refused : 0 < n → FirstToHold n (writingOrder m payload check room) → writeOf m payload check room ≡ Writing.Refused (refusal n)
+  pub writing-first-refused : 0 < n → FirstToHold (refusal n) (writingOrder m payload check room) → writeOf m payload check room ≡ Writing.Refused (refusal n)
   unfolding writeOf
-  writing-first-refused l w = ap (λ (k : ℕ). writing k (total m payload)) (first-holds n (writingOrder m payload check room) w) ∙ writing-hit n (total m payload) l
+  writing-first-refused l w = ap (λ (k : ℕ). writing k (total m payload)) (first-number n (writingOrder m payload check room) w) ∙ writing-hit n (total m payload) l
 
 -- Framing.
 module _ (message : List ℕ) (room n : ℕ) where
-  pub framing-refused-first : frameOf message room ≡ Writing.Refused (refusal n) → FirstToHold n (framingOrder message room)
-  unfolding frameOf
-  framing-refused-first e = found n (framingOrder message room) (writing-number _ n (2 + length message) e)
+  pub framing-refused-first : frameOf message room ≡ Writing.Refused (refusal n) → FirstToHold (refusal n) (framingOrder message room)
+  unfolding frameOf framingOrder
+  framing-refused-first e = number-first n (framingOrder message room) refl (writing-number _ n (2 + length message) e)
 
-  pub framing-first-refused : 0 < n → FirstToHold n (framingOrder message room) → frameOf message room ≡ Writing.Refused (refusal n)
+  pub framing-first-refused : 0 < n → FirstToHold (refusal n) (framingOrder message room) → frameOf message room ≡ Writing.Refused (refusal n)
   unfolding frameOf
-  framing-first-refused l w = ap (λ (k : ℕ). writing k (2 + length message)) (first-holds n (framingOrder message room) w) ∙ writing-hit n (2 + length message) l
+  framing-first-refused l w = ap (λ (k : ℕ). writing k (2 + length message)) (first-number n (framingOrder message room) w) ∙ writing-hit n (2 + length message) l
+
+-- ---- where a refusal points
+
+-- Where reading refuses, its offset is where the bytes end (2), or within the message, where the field at fault begins; 0 for the header, and of
+-- a message that is too long the length that it may have.
+pub refusal-points-at-the-fault : (bytes : List ℕ) (r : Refusal) → readOf bytes ≡ Reading.Refused r → AtFault bytes (r .number) (r .offset)
+unfolding readOf
+refusal-points-at-the-fault bytes r e =
+    let p = reading-refusal _ r (messageOf bytes) e in
+    subst (λ (q : Refusal). AtFault bytes (q .number) (q .offset)) (p .0) (at-fault bytes (λ z. above (p .1) (sym (ap numberOf (p .0)) ∙ z)))
+
+-- It is never past the end of the bytes, and from 7 on it is within them.
+pub offset-is-within : (bytes : List ℕ) (r : Refusal) → readOf bytes ≡ Reading.Refused r → (r .offset ≤ length bytes) × (7 ≤ r .number → r .offset < length bytes)
+offset-is-within bytes r e = within bytes (refusal-points-at-the-fault bytes r e)
+
+-- The writers' refusals point at no byte.
+pub writing-points-at-no-byte : (m : Message) (payload check : List ℕ) (room : ℕ) (r : Refusal) → writeOf m payload check room ≡ Writing.Refused r → r .offset ≡ 0
+unfolding writeOf
+writing-points-at-no-byte m payload check room r e = at-no-byte (first (writingOrder m payload check room)) (total m payload) r e
+
+pub framing-points-at-no-byte : (message : List ℕ) (room : ℕ) (r : Refusal) → frameOf message room ≡ Writing.Refused r → r .offset ≡ 0
+unfolding frameOf
+framing-points-at-no-byte message room r e = at-no-byte (first (framingOrder message room)) (2 + length message) r e
 
 -- ---- read, then written
 
@@ -182,21 +222,21 @@ written-then-read m payload check old n z e =
 
 -- ---- outer reading and reading
 
--- What outer reading refuses, reading refuses with the same number.
-pub outer-agrees : (bytes : List ℕ) (n : ℕ) → outerOf bytes ≡ OuterReading.Refused (refusal n) → readOf bytes ≡ Reading.Refused (refusal n)
+-- What outer reading refuses, reading refuses with the same number and at the same byte.
+pub outer-agrees : (bytes : List ℕ) (r : Refusal) → outerOf bytes ≡ OuterReading.Refused r → readOf bytes ≡ Reading.Refused r
 unfolding outerOf readOf readingOrder
-outer-agrees bytes n e =
-    let k = outer-number _ n _ _ e in
-    ap (λ (j : ℕ). reading j (messageOf bytes))
-    (first-hit (outerOrder bytes (messageOf bytes)) (bodyOrder bytes (messageOf bytes)) (λ z. let y : n ≡ 0 = sym (k .0) ∙ z in let l : 0 < n = k .1 in omega arith) ∙ k .0)
-    ∙ reading-hit n (messageOf bytes) (k .1)
+outer-agrees bytes r e =
+    let k = outer-refusal _ r _ _ e in
+    ap (λ (q : Refusal). reading q (messageOf bytes))
+    (first-hit (outerOrder bytes (messageOf bytes)) (bodyOrder bytes (messageOf bytes)) (λ z. above (k .1) (sym (ap numberOf (k .0)) ∙ z)) ∙ k .0)
+    ∙ reading-hit r (messageOf bytes) (above (k .1))
 
 -- Where outer reading refuses nothing, what is left of reading's order decides.
 pub reading-after-outer : (bytes : List ℕ) (start len : ℕ) → outerOf bytes ≡ OuterReading.Protected start len
-    → readOf bytes ≡ reading (first (bodyOrder bytes (messageOf bytes))) (messageOf bytes)
+    → readOf bytes ≡ reading (firstRefusal (bodyOrder bytes (messageOf bytes))) (messageOf bytes)
 unfolding outerOf readOf readingOrder
 reading-after-outer bytes start len e =
-    ap (λ (n : ℕ). reading n (messageOf bytes))
+    ap (λ (r : Refusal). reading r (messageOf bytes))
     (first-pass (outerOrder bytes (messageOf bytes)) (bodyOrder bytes (messageOf bytes)) (outer-numbered bytes (messageOf bytes)) (outer-place _ _ _ start len e .0))
 
 -- The protected part runs to the end. It starts after the key id, and of a plain message it is empty, at the end.

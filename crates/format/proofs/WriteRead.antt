@@ -12,18 +12,18 @@ use borrow.Author.Tests.{eqb-false, le-ltb}
 use Rattle.wire.specs.Bytes.{littleBytes}
 use Rattle.message.specs.Order.{first}
 use Rattle.message.specs.Layout.{only, bodyOf, headLength, checkLength, fixedLength}
-use Rattle.message.specs.Value.{exchangeHeader, addressBytes, exchangeBytes, headBytes, bytesOf}
+use Rattle.message.specs.Value.{exchangeHeader, messageOf, addressBytes, exchangeBytes, headBytes, bytesOf}
 use Rattle.message.specs.Refusals.{badExchange, total}
-use Rattle.message.specs.Answers.{reading}
 use Rattle.outer.specs.Outer.{outerOrder}
 use Rattle.reader.specs.Reading.{exchangeOrder, tunnelOrder, bodyOrder, readingOrder, readOf}
 use Rattle.parts.specs.Parts.{payloadOf, checkOf}
 use Rattle.judge.specs.Writing.{writeOf}
 use Rattle.message.specs.declared.value.Message.{Message}
 use Rattle.message.specs.Answers.{asTaken}
+use Rattle.reader.proofs.Clear.{none-taken}
 use Rattle.message.specs.declared.answers.Writing.the-variants.{Written}
 use Rattle.message.proofs.Logic.{clash, and-false}
-use Rattle.message.proofs.Order.{first-pass}
+use Rattle.message.proofs.Order.{numberOf, first-pass}
 use Rattle.outer.proofs.Begun.{outer-numbered}
 use Rattle.judge.proofs.Clear.{ClearWrite, written}
 use Rattle.message.proofs.Lengths.{length-address, length-head, length-bytes, total-is}
@@ -90,12 +90,12 @@ module _ (m : Message) (p c : List ℕ) (room : ℕ) (z : Sized m) (k : ClearWri
   unfolding readingOrder
   order-zero =
       ap (λ (v : Message). first (outerOrder (bytesOf m p c) v ++ bodyOrder (bytesOf m p c) v)) (message-is m p c room z k)
-      ∙ first-pass (outerOrder (bytesOf m p c) m) (bodyOrder (bytesOf m p c) m) (outer-numbered (bytesOf m p c) m) outer-zero
+      ∙ ap numberOf (first-pass (outerOrder (bytesOf m p c) m) (bodyOrder (bytesOf m p c) m) (outer-numbered (bytesOf m p c) m) outer-zero)
       ∙ body-zero (m .tunnelled) refl
 
   read-is : readOf (bytesOf m p c) ≡ asTaken m
   unfolding readOf
-  read-is = ap₂ reading order-zero (message-is m p c room z k)
+  read-is = none-taken _ (messageOf (bytesOf m p c)) order-zero ∙ ap asTaken (message-is m p c room z k)
 
   payload-same : payloadOf (bytesOf m p c) (readOf (bytesOf m p c)) ≡ p
   unfolding bytesOf

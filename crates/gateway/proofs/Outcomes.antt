@@ -14,17 +14,17 @@ use contract.Monad.{Fun, conj, conj-mono, fact}
 use contract.Lifetimes.{Lfts}
 use denote.Ref.{RefT, now}
 use denote.Triple.Clauses.{AtExit}
-use Rattle.wire.proofs.One.{both, two, four}
+use Rattle.wire.proofs.One.{both, two, five}
 use Rattle.gateway.proofs.receiving.kabizarle_receive as receiving
 use Rattle.gateway.proofs.removing.kabizarle_remove as removing
 
 module _ {M : Type 1} (𝓤 : URA M) (H : Heap 𝓤) (A : Atoms 𝓤) (at-mem : Memory → SProp 𝓤) (run : Routine → Fun 𝓤) where
-  -- `kabizarle_receive` gives one number, and leaves one table, one buffer and the fields in one state
-  pub one-receive : (κs : Lfts 4) (own link : ℕ) (passed : Bool) (id : ℕ) (bytes table out fields : RefT (List ℕ)) (r s : ℕ) (x y : AtExit receiving.ended κs)
-      → let allows : ℕ → AtExit receiving.ended κs → SProp 𝓤 = λ v e. receiving.clauses 𝓤 H A at-mem run κs (own, (link, (passed, (id, (bytes, (table, (out, (fields, tt)))))))) .ensures tt v e in
-      ent 𝓤 (conj 𝓤 (allows r x) (allows s y)) (fact 𝓤 ((r ≡ s) × ((now (x .1 .1 .1 .1 .1 .0) ≡ now (y .1 .1 .1 .1 .1 .0)) × ((now (x .1 .1 .1 .1 .1 .1 .0) ≡ now (y .1 .1 .1 .1 .1 .1 .0)) × (now (x .1 .1 .1 .1 .1 .1 .1 .0) ≡ now (y .1 .1 .1 .1 .1 .1 .1 .0))))))
-  one-receive κs own link passed id bytes table out fields r s x y =
-      via 𝓤 _ (conj-mono 𝓤 (four 𝓤 _ _ _ _) (four 𝓤 _ _ _ _)) (both 𝓤 _ _ _ (λ e f. (e .0 ∙ sym (f .0), (e .1 .0 ∙ sym (f .1 .0), (e .1 .1 .0 ∙ sym (f .1 .1 .0), e .1 .1 .1 ∙ sym (f .1 .1 .1))))))
+  -- `kabizarle_receive` gives one number, and leaves one table, one buffer, the fields in one state and one offset
+  pub one-receive : (κs : Lfts 5) (own link : ℕ) (passed : Bool) (id : ℕ) (bytes table out fields : RefT (List ℕ)) (offset : RefT ℕ) (r s : ℕ) (x y : AtExit receiving.ended κs)
+      → let allows : ℕ → AtExit receiving.ended κs → SProp 𝓤 = λ v e. receiving.clauses 𝓤 H A at-mem run κs (own, (link, (passed, (id, (bytes, (table, (out, (fields, (offset, tt))))))))) .ensures tt v e in
+      ent 𝓤 (conj 𝓤 (allows r x) (allows s y)) (fact 𝓤 ((r ≡ s) × ((now (x .1 .1 .1 .1 .1 .0) ≡ now (y .1 .1 .1 .1 .1 .0)) × ((now (x .1 .1 .1 .1 .1 .1 .0) ≡ now (y .1 .1 .1 .1 .1 .1 .0)) × ((now (x .1 .1 .1 .1 .1 .1 .1 .0) ≡ now (y .1 .1 .1 .1 .1 .1 .1 .0)) × (now (x .1 .1 .1 .1 .1 .1 .1 .1 .0) ≡ now (y .1 .1 .1 .1 .1 .1 .1 .1 .0)))))))
+  one-receive κs own link passed id bytes table out fields offset r s x y =
+      via 𝓤 _ (conj-mono 𝓤 (five 𝓤 _ _ _ _ _) (five 𝓤 _ _ _ _ _)) (both 𝓤 _ _ _ (λ e f. (e .0 ∙ sym (f .0), (e .1 .0 ∙ sym (f .1 .0), (e .1 .1 .0 ∙ sym (f .1 .1 .0), (e .1 .1 .1 .0 ∙ sym (f .1 .1 .1 .0), e .1 .1 .1 .1 ∙ sym (f .1 .1 .1 .1)))))))
 
   -- `kabizarle_remove` gives one number, and leaves one table
   pub one-remove : (κs : Lfts 1) (table : RefT (List ℕ)) (node key : ℕ) (r s : ℕ) (x y : AtExit removing.ended κs)

@@ -1,4 +1,4 @@
--- Receiving: the number of its answer, and what it puts into the lent places; on a refusal nothing. Assumes nothing.
+-- Receiving: the number of its answer, and what it puts into the lent places; on a refusal nothing but the offset. Assumes nothing.
 use Prim.Native.Nat.{ℕ}
 use mathlib.Core.List.{List}
 use Rattle.admission.specs.declared.answers.Received.{Received}
@@ -16,3 +16,9 @@ abbrev pub receivedAfter : Received → ℕ → List ℕ → List ℕ
 receivedAfter (Received.New m h reply) len old = fieldsOf m h len 1 reply
 receivedAfter (Received.Duplicate m h reply) len old = fieldsOf m h len 2 reply
 receivedAfter (Received.Refused r) len old = old
+
+-- receiving: the offset of the refusal; where there is none, what was there
+abbrev pub receivedOffset : Received → ℕ → ℕ
+receivedOffset (Received.New m h reply) old = old
+receivedOffset (Received.Duplicate m h reply) old = old
+receivedOffset (Received.Refused r) old = r .offset

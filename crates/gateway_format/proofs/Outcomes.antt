@@ -21,19 +21,19 @@ use Rattle.gateway_format.proofs.streams.kabizarle_unframe as unframing
 use Rattle.gateway_format.proofs.streams.kabizarle_frame as framing
 
 module _ {M : Type 1} (𝓤 : URA M) (H : Heap 𝓤) (A : Atoms 𝓤) (at-mem : Memory → SProp 𝓤) (run : Routine → Fun 𝓤) where
-  -- `kabizarle_read_outer` gives one number, and leaves one part
-  pub one-read-outer : (κs : Lfts 2) (bytes part : RefT (List ℕ)) (r s : ℕ) (x y : AtExit outer.ended κs)
-      → let allows : ℕ → AtExit outer.ended κs → SProp 𝓤 = λ v e. outer.clauses 𝓤 H A at-mem run κs (bytes, (part, tt)) .ensures tt v e in
-      ent 𝓤 (conj 𝓤 (allows r x) (allows s y)) (fact 𝓤 ((r ≡ s) × (now (x .1 .0) ≡ now (y .1 .0))))
-  one-read-outer κs bytes part r s x y =
-      via 𝓤 _ (conj-mono 𝓤 (two 𝓤 _ _) (two 𝓤 _ _)) (both 𝓤 _ _ _ (λ e f. (e .0 ∙ sym (f .0), e .1 ∙ sym (f .1))))
+  -- `kabizarle_read_outer` gives one number, and leaves one part and one offset
+  pub one-read-outer : (κs : Lfts 3) (bytes part : RefT (List ℕ)) (offset : RefT ℕ) (r s : ℕ) (x y : AtExit outer.ended κs)
+      → let allows : ℕ → AtExit outer.ended κs → SProp 𝓤 = λ v e. outer.clauses 𝓤 H A at-mem run κs (bytes, (part, (offset, tt))) .ensures tt v e in
+      ent 𝓤 (conj 𝓤 (allows r x) (allows s y)) (fact 𝓤 ((r ≡ s) × ((now (x .1 .0) ≡ now (y .1 .0)) × (now (x .1 .1 .0) ≡ now (y .1 .1 .0)))))
+  one-read-outer κs bytes part offset r s x y =
+      via 𝓤 _ (conj-mono 𝓤 (three 𝓤 _ _ _) (three 𝓤 _ _ _)) (both 𝓤 _ _ _ (λ e f. (e .0 ∙ sym (f .0), (e .1 .0 ∙ sym (f .1 .0), e .1 .1 ∙ sym (f .1 .1)))))
 
-  -- `kabizarle_read` gives one number, and leaves the fields in one state
-  pub one-read : (κs : Lfts 2) (bytes fields : RefT (List ℕ)) (r s : ℕ) (x y : AtExit reading.ended κs)
-      → let allows : ℕ → AtExit reading.ended κs → SProp 𝓤 = λ v e. reading.clauses 𝓤 H A at-mem run κs (bytes, (fields, tt)) .ensures tt v e in
-      ent 𝓤 (conj 𝓤 (allows r x) (allows s y)) (fact 𝓤 ((r ≡ s) × (now (x .1 .0) ≡ now (y .1 .0))))
-  one-read κs bytes fields r s x y =
-      via 𝓤 _ (conj-mono 𝓤 (two 𝓤 _ _) (two 𝓤 _ _)) (both 𝓤 _ _ _ (λ e f. (e .0 ∙ sym (f .0), e .1 ∙ sym (f .1))))
+  -- `kabizarle_read` gives one number, and leaves the fields in one state and one offset
+  pub one-read : (κs : Lfts 3) (bytes fields : RefT (List ℕ)) (offset : RefT ℕ) (r s : ℕ) (x y : AtExit reading.ended κs)
+      → let allows : ℕ → AtExit reading.ended κs → SProp 𝓤 = λ v e. reading.clauses 𝓤 H A at-mem run κs (bytes, (fields, (offset, tt))) .ensures tt v e in
+      ent 𝓤 (conj 𝓤 (allows r x) (allows s y)) (fact 𝓤 ((r ≡ s) × ((now (x .1 .0) ≡ now (y .1 .0)) × (now (x .1 .1 .0) ≡ now (y .1 .1 .0)))))
+  one-read κs bytes fields offset r s x y =
+      via 𝓤 _ (conj-mono 𝓤 (three 𝓤 _ _ _) (three 𝓤 _ _ _)) (both 𝓤 _ _ _ (λ e f. (e .0 ∙ sym (f .0), (e .1 .0 ∙ sym (f .1 .0), e .1 .1 ∙ sym (f .1 .1)))))
 
   -- `kabizarle_write` gives one number, and leaves one buffer and one length
   pub one-write : (κs : Lfts 5) (fields payload check out : RefT (List ℕ)) (written : RefT ℕ) (r s : ℕ) (x y : AtExit writing.ended κs)

@@ -7,7 +7,7 @@ ghost use Rattle.message.specs.Answers.{readingNumber, outerNumber, writingNumb
 ghost use Rattle.outer.specs.Outer.{outerOf};
 ghost use Rattle.reader.specs.Reading.{readOf};
 ghost use Rattle.values.specs.Values.{valueFrom};
-ghost use Rattle.gateway_format.specs.Messages.{partAfter, readAfter, writeFrom, writtenAfter};
+ghost use Rattle.gateway_format.specs.Messages.{partAfter, outerOffset, readAfter, readOffset, writeFrom, writtenAfter};
 use message::OuterReading;
 use message::Reading;
 use message::Refusal;
@@ -25,11 +25,17 @@ fn store_part(start: usize, len: usize, part: &mut [u64])
     part[places::PART_LENGTH] = len as u64;
 }
 
-// Where the protected part of a message starts and how long it is. Refusals 1 to 9.
+// Where the protected part of a message starts and how long it is. Refusals 1 to 9, with the byte at fault
+// in `offset`, which otherwise stays as it was.
 #[no_mangle]
-pub extern "C" fn kabizarle_read_outer(bytes: &[u8], part: &mut [u64; PART_PLACES]) -> u32
+pub extern "C" fn kabizarle_read_outer(
+    bytes: &[u8],
+    part: &mut [u64; PART_PLACES],
+    offset: &mut u64,
+) -> u32
     ensures result { λ r. ⌜ r ≡ outerNumber (outerOf (now (bytes .entry))) ⌝ }
     ensures part { λ _. ⌜ now (part .exit) ≡ partAfter (outerOf (now (bytes .entry))) (now (part .entry)) ⌝ }
+    ensures offset { λ _. ⌜ now (offset .exit) ≡ outerOffset (outerOf (now (bytes .entry))) (now (offset .entry)) ⌝ }
 {
     let outer = outer::read_outer(bytes);
     match outer {
@@ -37,16 +43,20 @@ pub extern "C" fn kabizarle_read_outer(bytes: &[u8], part: &mut [u64; PART_PLACE
             store_part(start, len, part);
             places::NO_REFUSAL
         }
-        OuterReading::Refused(refusal) => refusal.number as u32,
+        OuterReading::Refused(refusal) => {
+            *offset = refusal.offset as u64;
+            refusal.number as u32
+        }
     }
 }
 
 // The fields of a message, and where its payload and its check stand in the bytes. Whatever reading
-// refuses.
+// refuses, with the byte at fault in `offset`, which otherwise stays as it was.
 #[no_mangle]
-pub extern "C" fn kabizarle_read(bytes: &[u8], fields: &mut [u64; FIELDS]) -> u32
+pub extern "C" fn kabizarle_read(bytes: &[u8], fields: &mut [u64; FIELDS], offset: &mut u64) -> u32
     ensures result { λ r. ⌜ r ≡ readingNumber (readOf (now (bytes .entry))) ⌝ }
     ensures fields { λ _. ⌜ now (fields .exit) ≡ readAfter (readOf (now (bytes .entry))) (length (now (bytes .entry))) (now (fields .entry)) ⌝ }
+    ensures offset { λ _. ⌜ now (offset .exit) ≡ readOffset (readOf (now (bytes .entry))) (now (offset .entry)) ⌝ }
 {
     let reading = reader::read(bytes);
     match reading {
@@ -55,7 +65,10 @@ pub extern "C" fn kabizarle_read(bytes: &[u8], fields: &mut [u64; FIELDS]) -> u3
             places::store(m, head, header, bytes.len(), places::NONE, 0, fields);
             places::NO_REFUSAL
         }
-        Reading::Refused(refusal) => refusal.number as u32,
+        Reading::Refused(refusal) => {
+            *offset = refusal.offset as u64;
+            refusal.number as u32
+        }
     }
 }
 

@@ -9,7 +9,7 @@ use borrow.Author.Tests.{eq-eqb}
 use lib.Dec.{eqb}
 use lib.ListN.{length}
 use Rattle.wire.proofs.Digits.{AllBytes}
-use Rattle.message.specs.Order.{first}
+use Rattle.message.specs.Order.{firstRefusal}
 use Rattle.message.specs.Layout.{only}
 use Rattle.message.specs.Value.{messageOf}
 use Rattle.message.specs.Refusals.{total}
@@ -97,7 +97,7 @@ pub new-joins-its-list : (book : Book) (b : Beside) (bytes : List ℕ) (m : Mess
 unfolding bookAt receiveBy answerOf
 new-joins-its-list book b bytes m h len e =
     let those : List (List ℕ) = book .lists (senderOf (b .link) (messageOf bytes)) (messageOf bytes .key) in
-    let w = new-of (first (receivingOrder b bytes (fullFor those (book .count)))) (verdictOf (isNew (messageOf bytes .key) those (messageOf bytes .id))) (messageOf bytes) m (headOf (messageOf bytes)) h (only (messageOf bytes .wants) (total (answerTo b (messageOf bytes)) [])) len e in
+    let w = new-of (firstRefusal (receivingOrder b bytes (fullFor those (book .count)))) (verdictOf (isNew (messageOf bytes .key) those (messageOf bytes .id))) (messageOf bytes) m (headOf (messageOf bytes)) h (only (messageOf bytes .wants) (total (answerTo b (messageOf bytes)) [])) len e in
     ap (λ (a : Received). bookAfter a (senderOf (b .link) (messageOf bytes)) (messageOf bytes .key) (messageOf bytes .id) book .lists) e
     ∙ ap (λ (x : Message). under (book .lists) (senderOf (b .link) x) (x .key) (joined (x .key) (book .lists (senderOf (b .link) x) (x .key)) (x .id))) (w .1)
 
@@ -158,7 +158,7 @@ module _ (P : List (List ℕ) → Type 0)
 
         go : (a : Received) → receiveBy book b bytes ≡ a → (n k : ℕ) → P (bookAfter a node key id book .lists n k)
         go (Received.New v h len) e =
-            let w = new-of (first (receivingOrder b bytes (fullFor (book .lists node key) (book .count)))) (verdictOf (isNew key (book .lists node key) id)) (messageOf bytes) v (headOf (messageOf bytes)) h (only (messageOf bytes .wants) (total (answerTo b (messageOf bytes)) [])) len e in
+            let w = new-of (firstRefusal (receivingOrder b bytes (fullFor (book .lists node key) (book .count)))) (verdictOf (isNew key (book .lists node key) id)) (messageOf bytes) v (headOf (messageOf bytes)) h (only (messageOf bytes .wants) (total (answerTo b (messageOf bytes)) [])) len e in
             replaced book node key (joined key (book .lists node key) id) d (joins key (book .lists node key) id (d node key) (is-accepted _ (w .3)))
         go (Received.Duplicate v h len) e = d
         go (Received.Refused r) e = d

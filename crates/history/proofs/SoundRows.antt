@@ -12,7 +12,7 @@ use lib.ListN.{length}
 use Rattle.wire.specs.Bytes.{part, little, big}
 use Rattle.wire.proofs.Digits.{AllBytes}
 use Rattle.wire.proofs.Parts.{byte-low}
-use Rattle.message.specs.Order.{first}
+use Rattle.message.specs.Order.{firstRefusal, first}
 use Rattle.message.specs.Layout.{only, sourceAt}
 use Rattle.message.specs.Value.{bits, bit, header, addressOf, exchangedBy, messageOf}
 use Rattle.message.specs.Refusals.{badKeyType, nobody, total}
@@ -193,7 +193,7 @@ module _ (t : List ℕ) (size : length t ≡ 96) (all : AllSound t) where
 
       go : (a : Received) → receiveOf b bytes t ≡ a → AllSound (tableAfter a t (rowFor t node key) (rolledIn t node key id .row))
       go (Received.New v h n) e =
-          let w = new-of (first (receivingOrder b bytes (noRow t node key))) (rolledIn t node key id .verdict) (messageOf bytes) v (headOf (messageOf bytes)) h (only (messageOf bytes .wants) (total (answerTo b (messageOf bytes)) [])) n e in
+          let w = new-of (firstRefusal (receivingOrder b bytes (noRow t node key))) (rolledIn t node key id .verdict) (messageOf bytes) v (headOf (messageOf bytes)) h (only (messageOf bytes .wants) (total (answerTo b (messageOf bytes)) [])) n e in
           let name : GoodName node key =
           record {
             somebody = sender-is-somebody b bytes (noRow t node key) (w .0);

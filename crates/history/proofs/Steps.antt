@@ -10,7 +10,7 @@ use lib.Dec.{eqb, leb, ltb}
 use Rattle.wire.specs.Bytes.{part, little}
 use Rattle.wire.proofs.Digits.{AllBytes}
 use Rattle.wire.proofs.Parts.{byte-low}
-use Rattle.message.specs.Order.{first}
+use Rattle.message.specs.Order.{firstRefusal}
 use Rattle.message.specs.Layout.{only}
 use Rattle.message.specs.Value.{bits, header, addressOf, exchangedBy, messageOf}
 use Rattle.message.specs.Refusals.{total}
@@ -176,11 +176,11 @@ module _ {t : List ℕ} {book : Book} (told : Told t book) where
       both = agrees told node key id (key-low bytes all) (id-low bytes all)
 
       same : receiveOf b bytes t ≡ receiveBy book b bytes
-      same = ap₂ (λ (f : Bool) (v : Verdict). answerOf (first (receivingOrder b bytes f)) v (answerTo b (messageOf bytes)) (messageOf bytes) (headOf (messageOf bytes))) (both .full) (both .verdict)
+      same = ap₂ (λ (f : Bool) (v : Verdict). answerOf (firstRefusal (receivingOrder b bytes f)) v (answerTo b (messageOf bytes)) (messageOf bytes) (headOf (messageOf bytes))) (both .full) (both .verdict)
 
       go : (a : Received) → receiveOf b bytes t ≡ a → Told (tableAfter a t (rcv.rowFor t node key) (rolledIn t node key id .row)) (bookAfter a node key id book)
       go (Received.New v h n) e =
-          let w = new-of (first (receivingOrder b bytes (noRow t node key))) (rolledIn t node key id .verdict) (messageOf bytes) v (headOf (messageOf bytes)) h (only (messageOf bytes .wants) (total (answerTo b (messageOf bytes)) [])) n e in
+          let w = new-of (firstRefusal (receivingOrder b bytes (noRow t node key))) (rolledIn t node key id .verdict) (messageOf bytes) v (headOf (messageOf bytes)) h (only (messageOf bytes .wants) (total (answerTo b (messageOf bytes)) [])) n e in
           both .moves (has-row b bytes (noRow t node key) (w .0)) (w .3)
       go (Received.Duplicate v h n) e = told
       go (Received.Refused r) e = told

@@ -7,7 +7,7 @@ use Prim.Native.Nat.{ℕ, _+_, _-_}
 use mathlib.Core.Bool.{Bool, true, false, _&&_, cond}
 use mathlib.Core.List.{List, [], _∷_, map}
 use lib.Dec.{eqb, leb}
-use Rattle.message.specs.Order.{first}
+use Rattle.message.specs.Order.{firstRefusal}
 use Rattle.message.specs.Value.{messageOf}
 use Rattle.message.specs.Answers.{refusal, headOf}
 use Rattle.window.specs.Rule.{positionAfter, accepts}
@@ -107,7 +107,7 @@ unfoldable pub receiveBy : Book → Beside → List ℕ → Received
 receiveBy book b bytes =
     let m = messageOf bytes in
     let those = book .lists (senderOf (b .link) m) (m .key) in
-    answerOf (first (receivingOrder b bytes (fullFor those (book .count)))) (verdictOf (isNew (m .key) those (m .id))) (answerTo b m) m (headOf m)
+    answerOf (firstRefusal (receivingOrder b bytes (fullFor those (book .count)))) (verdictOf (isNew (m .key) those (m .id))) (answerTo b m) m (headOf m)
 
 -- the answer to a step; that to a restore goes by the bytes alone, so it is the contract's own, and what it refuses is proved in `records`
 abbrev pub answerBy : Book → Step → Answer

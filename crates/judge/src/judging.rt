@@ -120,16 +120,23 @@ pub fn would_write(m: Message, payload: &[u8], check: &[u8], room: usize) -> Wri
 {
     let by_value = value_refusal(m);
     if by_value != 0 {
-        return Writing::Refused(Refusal { number: by_value });
+        return Writing::Refused(Refusal {
+            number: by_value,
+            offset: 0,
+        });
     }
     let by_parts = parts_refusal(m, payload, check);
     if by_parts != 0 {
-        return Writing::Refused(Refusal { number: by_parts });
+        return Writing::Refused(Refusal {
+            number: by_parts,
+            offset: 0,
+        });
     }
     let total = total_length(m, payload);
     if room < total {
         return Writing::Refused(Refusal {
             number: Refusal::NO_ROOM,
+            offset: 0,
         });
     }
     Writing::Written(total)

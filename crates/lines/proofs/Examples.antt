@@ -1,4 +1,4 @@
--- Lines of the listing, spelt out: those of the example, and the greatest number. Assumes nothing.
+-- Lines of the listing, spelt out: those of the example, a refusal that points at a byte, and the greatest number. Assumes nothing.
 use mathlib.Core.Path.{_≡_, refl}
 use mathlib.Core.List.{[], _∷_}
 use Rattle.lines.specs.Decimal.{placesWithin, placesOf, decimalText}
@@ -15,10 +15,15 @@ pub second-duplicate : lineText 2 (Duplicate 5) ≡ 50 ∷ 32 ∷ 100 ∷ 117 �
 unfolding lineText closing decimalText placesOf placesWithin
 second-duplicate = refl
 
--- `3 refused 5`
-pub third-refused : lineText 3 (Refused 5) ≡ 51 ∷ 32 ∷ 114 ∷ 101 ∷ 102 ∷ 117 ∷ 115 ∷ 101 ∷ 100 ∷ 32 ∷ 53 ∷ 10 ∷ []
+-- `3 refused 5 0`
+pub third-refused : lineText 3 (Refused 5 0) ≡ 51 ∷ 32 ∷ 114 ∷ 101 ∷ 102 ∷ 117 ∷ 115 ∷ 101 ∷ 100 ∷ 32 ∷ 53 ∷ 32 ∷ 48 ∷ 10 ∷ []
 unfolding lineText closing decimalText placesOf placesWithin
 third-refused = refl
+
+-- `12 refused 9 14`
+pub refused-at-byte : lineText 12 (Refused 9 14) ≡ 49 ∷ 50 ∷ 32 ∷ 114 ∷ 101 ∷ 102 ∷ 117 ∷ 115 ∷ 101 ∷ 100 ∷ 32 ∷ 57 ∷ 32 ∷ 49 ∷ 52 ∷ 10 ∷ []
+unfolding lineText closing decimalText placesOf placesWithin
+refused-at-byte = refl
 
 -- `end 0`
 pub end-none : lastText 0 ≡ 101 ∷ 110 ∷ 100 ∷ 32 ∷ 48 ∷ 10 ∷ []

@@ -1,6 +1,6 @@
 -- What the appended texts leave in the buffer. Assumes nothing.
 use Prim.Native.Nat.{ℕ, _+_, _≤_}
-use mathlib.Core.Path.{_≡_, refl, sym, ap, ap₂, _∙_}
+use mathlib.Core.Path.{_≡_, refl, sym, ap, _∙_}
 use mathlib.Core.List.{List, _++_}
 use native.Mathlib.Omega.{arith}
 use lib.ListN.{length, drop, length-append}
@@ -8,8 +8,9 @@ use lib.Seq.{sets, length-take-le}
 use Rattle.io.specs.Counts.{Counts}
 use Rattle.wire.proofs.Runs.{begun, onward, sets-front}
 use Rattle.lines.specs.Decimal.{decimalText}
-use Rattle.lines.specs.Lines.{newline, wordOf, numberOf, endWord, closing, lineText, lastText}
+use Rattle.lines.specs.Lines.{newline, space, newWord, duplicateWord, refusedWord, endWord, closing, saidText, lineText, lastText}
 use Rattle.lines.specs.declared.Said.{Said}
+use Rattle.lines.specs.declared.Said.the-variants.{New, Duplicate, Refused}
 use Rattle.lines.proofs.Decimals.{decimal-most}
 
 -- a text stored under another name
@@ -17,27 +18,34 @@ pub stored : {r : ℕ} {front text new : List ℕ} (old : List ℕ) (at : ℕ) �
     → (r ≡ at + length text) × (new ≡ sets old at text)
 stored old at e p = (p .0 ∙ ap (λ (l : List ℕ). at + length l) e, p .1 ∙ ap (λ (l : List ℕ). sets old at l) e)
 
--- a word, a number and the end of the line, one after another
-pub closed : {b b′ b″ : List ℕ} {start end r : ℕ} (old word : List ℕ) (at n : ℕ)
+-- a word, a number and what ends the line, one after another
+pub ended : {b b′ b″ : List ℕ} {start end r : ℕ} (old word : List ℕ) (at n : ℕ) (rest : List ℕ)
     → (start ≡ at + length word) × (b ≡ sets old at word)
     → (end ≡ start + length (decimalText n)) × (b′ ≡ sets b start (decimalText n))
-    → (r ≡ end + 1) × (b″ ≡ sets b′ end newline)
-    → (r ≡ at + length (closing word n)) × (b″ ≡ sets old at (closing word n))
-unfolding closing
-closed old word at n p q s =
+    → (r ≡ end + length rest) × (b″ ≡ sets b′ end rest)
+    → (r ≡ at + length (word ++ decimalText n ++ rest)) × (b″ ≡ sets old at (word ++ decimalText n ++ rest))
+ended old word at n rest p q s =
     let w = begun old at word (length word) refl p in
     let x = onward (decimalText n) (length (decimalText n)) refl w q in
-    let y = onward newline 1 refl x s in
+    let y = onward rest (length rest) refl x s in
     (y .place, y .buffer)
 
--- how long a word, a number and the end of the line are at most
-closing-most : (word : List ℕ) (n : ℕ) → length (closing word n) ≤ length word + 21
-unfolding closing
-closing-most word n =
-    let a = length-append (word ++ decimalText n) newline in
+-- how long a word, a number and what ends the line are at most
+ended-most : (word : List ℕ) (n : ℕ) (rest : List ℕ) → length (word ++ decimalText n ++ rest) ≤ length word + 20 + length rest
+ended-most word n rest =
+    let a = length-append (word ++ decimalText n) rest in
     let b = length-append word (decimalText n) in
     let m = decimal-most n in
     omega arith
+
+closing-most : (word : List ℕ) (n : ℕ) → length (closing word n) ≤ length word + 21
+unfolding closing
+closing-most word n = let m = ended-most word n newline in omega arith
+
+said-most : (said : Said) → length (saidText said) ≤ 51
+said-most (New id) = let m = closing-most newWord id in omega arith
+said-most (Duplicate id) = let m = closing-most duplicateWord id in omega arith
+said-most (Refused number offset) = let m = closing-most space offset in let l = ended-most refusedWord number (closing space offset) in omega arith
 
 -- a text stored from the front on
 front-text : {new : List ℕ} {r : ℕ} (old text : List ℕ) → length text ≤ length old → (r ≡ 0 + length text) × (new ≡ sets old 0 text)
@@ -47,28 +55,27 @@ front-text {r = r} old text h p =
     (e, p .1 ∙ sets-front old text h ∙ ap (λ (k : ℕ). text ++ drop k old) (sym e))
 
 -- the last line
-pub last-stored : {new : List ℕ} {r : ℕ} (old : List ℕ) (left : ℕ) → 64 ≤ length old
+pub last-stored : {new : List ℕ} {r : ℕ} (old : List ℕ) (left : ℕ) → 72 ≤ length old
     → (r ≡ 0 + length (closing endWord left)) × (new ≡ sets old 0 (closing endWord left))
     → (r ≡ length (lastText left)) × (new ≡ lastText left ++ drop r old)
 unfolding lastText
 last-stored old left h p = let m = closing-most endWord left in front-text old (closing endWord left) (omega arith) p
 
 -- the line of a message
-pub line-stored : {b new word : List ℕ} {at r n : ℕ} (old : List ℕ) (ordinal : ℕ) (said : Said) → 64 ≤ length old
-    → wordOf said ≡ word → numberOf said ≡ n → length word ≤ 11
+pub line-stored : {b new rest : List ℕ} {at r : ℕ} (old : List ℕ) (ordinal : ℕ) (said : Said) → 72 ≤ length old
+    → saidText said ≡ rest
     → (at ≡ 0 + length (decimalText ordinal)) × (b ≡ sets old 0 (decimalText ordinal))
-    → (r ≡ at + length (closing word n)) × (new ≡ sets b at (closing word n))
+    → (r ≡ at + length rest) × (new ≡ sets b at rest)
     → (r ≡ length (lineText ordinal said)) × (new ≡ lineText ordinal said ++ drop r old)
 unfolding lineText
-line-stored {word = word} {n = n} old ordinal said h w k s p q =
-    let e : closing word n ≡ closing (wordOf said) (numberOf said) = ap₂ closing (sym w) (sym k) in
+line-stored {b} {at = at} old ordinal said h e p q =
     let x = begun old 0 (decimalText ordinal) (length (decimalText ordinal)) refl p in
-    let y = onward (closing word n) (length (closing word n)) refl x q in
-    let m = closing-most word n in
+    let s = stored b at (sym e) q in
+    let y = onward (saidText said) (length (saidText said)) refl x s in
+    let m = said-most said in
     let d = decimal-most ordinal in
-    let l = length-append (decimalText ordinal) (closing (wordOf said) (numberOf said)) in
-    let j : length (closing word n) ≡ length (closing (wordOf said) (numberOf said)) = ap length e in
-    front-text old (decimalText ordinal ++ closing (wordOf said) (numberOf said)) (omega arith) (stored old 0 (ap (λ (t : List ℕ). decimalText ordinal ++ t) e) (y .place, y .buffer))
+    let l = length-append (decimalText ordinal) (saidText said) in
+    front-text old (decimalText ordinal ++ saidText said) (omega arith) (y .place, y .buffer)
 
 -- a text at the front of a buffer is counted by its length
 pub counted : {new : List ℕ} {r : ℕ} (old text : List ℕ) → (r ≡ length text) × (new ≡ text ++ drop r old)

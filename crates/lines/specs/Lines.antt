@@ -9,17 +9,21 @@ use Rattle.lines.specs.declared.Said.the-variants.{New, Duplicate, Refus
 abbrev pub newline : List ℕ
 newline = 10 ∷ []
 
--- ` new `, ` duplicate `, ` refused `
-abbrev pub wordOf : Said → List ℕ
-wordOf (New id) = 32 ∷ 110 ∷ 101 ∷ 119 ∷ 32 ∷ []
-wordOf (Duplicate id) = 32 ∷ 100 ∷ 117 ∷ 112 ∷ 108 ∷ 105 ∷ 99 ∷ 97 ∷ 116 ∷ 101 ∷ 32 ∷ []
-wordOf (Refused number) = 32 ∷ 114 ∷ 101 ∷ 102 ∷ 117 ∷ 115 ∷ 101 ∷ 100 ∷ 32 ∷ []
+-- between the two numbers of a refusal
+abbrev pub space : List ℕ
+space = 32 ∷ []
 
--- the message id, or the number of the refusal
-abbrev pub numberOf : Said → ℕ
-numberOf (New id) = id
-numberOf (Duplicate id) = id
-numberOf (Refused number) = number
+-- ` new `
+abbrev pub newWord : List ℕ
+newWord = 32 ∷ 110 ∷ 101 ∷ 119 ∷ 32 ∷ []
+
+-- ` duplicate `
+abbrev pub duplicateWord : List ℕ
+duplicateWord = 32 ∷ 100 ∷ 117 ∷ 112 ∷ 108 ∷ 105 ∷ 99 ∷ 97 ∷ 116 ∷ 101 ∷ 32 ∷ []
+
+-- ` refused `
+abbrev pub refusedWord : List ℕ
+refusedWord = 32 ∷ 114 ∷ 101 ∷ 102 ∷ 117 ∷ 115 ∷ 101 ∷ 100 ∷ 32 ∷ []
 
 -- `end `
 abbrev pub endWord : List ℕ
@@ -29,9 +33,15 @@ endWord = 101 ∷ 110 ∷ 100 ∷ 32 ∷ []
 unfoldable pub closing : List ℕ → ℕ → List ℕ
 closing word number = word ++ decimalText number ++ newline
 
--- the line of a message: its ordinal, the verdict, then the message id or the number of the refusal
+-- what is said of a message: the verdict with the message id, or the refusal's number and offset
+abbrev pub saidText : Said → List ℕ
+saidText (New id) = closing newWord id
+saidText (Duplicate id) = closing duplicateWord id
+saidText (Refused number offset) = refusedWord ++ decimalText number ++ closing space offset
+
+-- the line of a message: its ordinal, then what is said of it
 unfoldable pub lineText : ℕ → Said → List ℕ
-lineText ordinal said = decimalText ordinal ++ closing (wordOf said) (numberOf said)
+lineText ordinal said = decimalText ordinal ++ saidText said
 
 -- the last line: the count of leftover bytes
 unfoldable pub lastText : ℕ → List ℕ

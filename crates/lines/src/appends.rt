@@ -11,7 +11,7 @@ ghost use Rattle.lines.specs.Lines.{closing as Lines·closing};
 const DIGITS: usize = 20;
 
 // All of a slice.
-fn text(out: &mut [u8], at: usize, from: &[u8]) -> usize
+pub(crate) fn text(out: &mut [u8], at: usize, from: &[u8]) -> usize
     requires { ⌜ at + length (now from) ≤ length (now out) ⌝ }
     ensures { λ r. ⌜ (r ≡ at + length (now (from .entry))) × (now (out .exit) ≡ sets (now (out .entry)) at (now (from .entry))) ⌝ }
 {

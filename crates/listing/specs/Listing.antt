@@ -13,11 +13,11 @@ use Rattle.message.specs.declared.answers.Unframed.the-variants.{Whole, Incompl
 use Rattle.reception.specs.Receiving.{beside, receiveOf, receiveTable}
 use Rattle.stream.specs.Stream.{unframeOf, framedMessage}
 
--- the verdict with the message id, or the refusal
+-- the verdict with the message id, or the refusal's number and offset
 abbrev pub saidOf : Received → Said
 saidOf (Received.New m h len) = Said.New (m .id)
 saidOf (Received.Duplicate m h len) = Said.Duplicate (m .id)
-saidOf (Received.Refused refusal) = Said.Refused (refusal .number)
+saidOf (Received.Refused refusal) = Said.Refused (refusal .number) (refusal .offset)
 
 -- what the line says of a message, and the table after it: own node 02 00 00 00 00 00 00 01, link node zero, the check passed, id 0, room of 64 bytes
 abbrev pub heardOf : List ℕ → List ℕ → Said

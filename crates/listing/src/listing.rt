@@ -27,7 +27,7 @@ fn said(answer: Received) -> Said
     match answer {
         Received::New(m, _, _) => Said::New(m.id),
         Received::Duplicate(m, _, _) => Said::Duplicate(m.id),
-        Received::Refused(refusal) => Said::Refused(refusal.number),
+        Received::Refused(refusal) => Said::Refused(refusal.number, refusal.offset),
     }
 }
 
@@ -46,7 +46,7 @@ fn show(ordinal: u64, message: &[u8], table: &mut [u64; WORDS])
     ensures { λ _. ⌜ now (table .exit) ≡ heardTable (now (message .entry)) (now (table .entry)) ⌝ }
 {
     let heard = hear(message, table);
-    let mut text = [0u8; 64];
+    let mut text = [0u8; lines::LINE];
     let count = lines::line(ordinal, heard, &mut text);
     io::write_all(STDOUT_FILENO, &text[..count]);
 }
@@ -69,7 +69,7 @@ fn step(stream: &[u8], ordinal: u64, table: &mut [u64; WORDS]) -> usize
 
 // Prints the last line.
 pub(crate) fn finish(left: u64) {
-    let mut text = [0u8; 64];
+    let mut text = [0u8; lines::LINE];
     let count = lines::last(left, &mut text);
     io::write_all(STDOUT_FILENO, &text[..count]);
 }

@@ -21,6 +21,10 @@ pub and-false : (a b : Bool) → (a && b) ≡ false → a ≡ true → b ≡ fal
 and-false true b e h = e
 and-false false b e h = clash false h refl
 
+pub and-true : (a b : Bool) → (a && b) ≡ true → (a ≡ true) × (b ≡ true)
+and-true true b e = (refl, e)
+and-true false b e = clash false e refl
+
 pub when-true : (a b : Bool) → (a ≡ true → b ≡ false) → (a && b) ≡ false
 when-true true b h = h refl
 when-true false b h = refl

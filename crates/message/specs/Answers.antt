@@ -1,6 +1,8 @@
--- The answers: for each case its refusal number, 0 for none, and its values. Assumes nothing.
+-- The answers: for each case its refusal, of number 0 for none, and its values. Assumes nothing.
 use Prim.Native.Nat.{ℕ, zero, suc}
+use mathlib.Core.Bool.{cond}
 use mathlib.Core.List.{List, _++_}
+use lib.Dec.{eqb}
 use lib.ListN.{drop}
 use Rattle.message.specs.Layout.{headLength}
 use Rattle.message.specs.Value.{flagsOf}
@@ -14,8 +16,9 @@ use Rattle.message.specs.declared.answers.OuterReading.the-variants as O
 use Rattle.message.specs.declared.answers.Writing.{Writing}
 use Rattle.message.specs.declared.answers.Writing.the-variants as Writing
 
+-- a refusal that points at no byte
 abbrev pub refusal : ℕ → Refusal
-refusal n = record { number = n }
+refusal n = record { number = n; offset = 0 }
 
 -- the head of a value
 abbrev pub headOf : Message → Head
@@ -25,16 +28,14 @@ headOf m = record { flags = flagsOf m; length = headLength m }
 abbrev pub asTaken : Message → Reading
 asTaken m = Reading.Taken m (headOf m)
 
-abbrev pub reading : ℕ → Message → Reading
-reading zero m = asTaken m
-reading (suc n) m = Reading.Refused (refusal (suc n))
+abbrev pub reading : Refusal → Message → Reading
+reading r m = cond (eqb (r .number) 0) (asTaken m) (Reading.Refused r)
 
 -- outer reading: where the protected part starts and how long it is, or the refusal
-abbrev pub outerReading : ℕ → ℕ → ℕ → OuterReading
-outerReading zero start len = OuterReading.Protected start len
-outerReading (suc n) start len = OuterReading.Refused (refusal (suc n))
+abbrev pub outerReading : Refusal → ℕ → ℕ → OuterReading
+outerReading r start len = cond (eqb (r .number) 0) (OuterReading.Protected start len) (OuterReading.Refused r)
 
--- writing, framing and saving: the length, or the refusal
+-- writing, framing and saving: the length, or the refusal, which points at no byte
 abbrev pub writing : ℕ → ℕ → Writing
 writing zero len = Writing.Written len
 writing (suc n) len = Writing.Refused (refusal (suc n))

@@ -1,9 +1,13 @@
 // What reading, writing and the stream answer.
 use crate::value::Message;
 
-// Why a message, a value, a buffer or a saved table was refused, by its number.
+// Why a message, a value, a buffer or a saved table was refused.
 pub struct Refusal {
+    // Its number, one of those below.
     pub number: u8,
+    // Where a message is read, the byte at fault: the first of the field, the end where bytes are missing,
+    // 1,232 where there are too many. Of any other refusal 0.
+    pub offset: usize,
 }
 
 impl Refusal {

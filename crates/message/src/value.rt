@@ -4,7 +4,9 @@ ghost use Prim.Native.Nat.{_≤_};
 ghost use Rattle.message.specs.Layout.{only, bodyAt, bodyOf, checkLength, headLength};
 use crate::layout;
 
-// Whether a field is present is told by the flags alone, never by the field being zero.
+// Whether a field is present is told by the flags alone, never by the field being zero. The order is that in
+// memory: `source` lies where a refusal has its `offset`, and is as wide, so an answer, which is a value or a
+// refusal, stays in registers.
 pub struct Message {
     // 1 or 2.
     pub version: u8,
@@ -16,10 +18,10 @@ pub struct Message {
     pub destined: bool,
     // 0 plain, 1 encrypted: with a key id and check bytes.
     pub encrypt: u8,
-    pub id: u32,
     // EUI[0] is the most significant byte.
     pub source: u64,
     pub destination: u64,
+    pub id: u32,
     // Key type in bits 15 to 12, key number below.
     pub key: u16,
     // I: sent by the one who began the exchange.

@@ -3,20 +3,27 @@ ghost use mathlib.Core.Path.{_≡_};
 ghost use Prim.Native.Nat.{_≤_};
 ghost use lib.ListN.{length};
 ghost use Rattle.message.specs.Order.{first};
-ghost use Rattle.message.specs.Value.{bodyBy, addressOf};
+ghost use Rattle.message.specs.Value.{bit, bodyBy, addressOf};
 ghost use Rattle.message.specs.Refusals.{reserved};
 ghost use Rattle.outer.specs.Outer.{outerOf};
-ghost use Rattle.outer.specs.Steps.{headerOrder, fixedAt, begunOf};
+ghost use Rattle.outer.specs.Steps.{headerOrder, fixedAt, fieldAt, begunOf};
 use crate::fields;
 use message::Message;
 use message::OuterReading;
 use message::Refusal;
 use message::layout;
 
-// The value up to the key id, its exchange fields zero; or the number of the refusal.
+// The value up to the key id, its exchange fields zero; or the refusal.
 pub enum Begun {
     Address(Message),
-    Refused(u8),
+    Refused(Refusal),
+}
+
+// A refusal by its number and the byte at fault.
+fn refused(number: u8, offset: usize) -> Begun
+    ensures { λ r. ⌜ r ≡ Begun.Refused (record { number = number; offset = offset }) ⌝ }
+{
+    Begun::Refused(Refusal { number, offset })
 }
 
 // 4: a reserved bit of the header.
@@ -89,35 +96,45 @@ fn address(bytes: &[u8], h: u16) -> Message
     }
 }
 
+// Where the field stands that a refusal by the address fields is about, 7, 8 or 9: the source first; the
+// destination behind it; the key id behind both, as far as they are present.
+fn field_at(number: u8, h: u16) -> usize
+    ensures { λ r. ⌜ r ≡ fieldAt number (bit h 9) (bit h 8) ⌝ }
+{
+    let after_source = (number != Refusal::SOURCE) & (h / layout::S % 2 == 1);
+    let after_destination = (number == Refusal::KEY) & (h / layout::D % 2 == 1);
+    message::body_at(after_source, after_destination, false)
+}
+
 // Refusals 1 to 9, else the value up to the key id: the length, the header, the length that the
 // header demands, the address fields.
 pub fn begin(bytes: &[u8]) -> Begun
     ensures { λ r. ⌜ r ≡ begunOf (now (bytes .entry)) ⌝ }
 {
     if layout::LONGEST < bytes.len() {
-        return Begun::Refused(Refusal::TOO_LONG);
+        return refused(Refusal::TOO_LONG, layout::LONGEST);
     }
     if bytes.len() < layout::HEADER {
-        return Begun::Refused(Refusal::TOO_SHORT);
+        return refused(Refusal::TOO_SHORT, bytes.len());
     }
     let h = wire::get16(&bytes[layout::HEADER_AT..layout::HEADER_AT + layout::HEADER]);
     let by_header = header_refusal(h);
     if by_header != 0 {
-        return Begun::Refused(by_header);
+        return refused(by_header, layout::HEADER_AT);
     }
     if bytes.len() < fixed_length(h) {
-        return Begun::Refused(Refusal::TOO_SHORT);
+        return refused(Refusal::TOO_SHORT, bytes.len());
     }
     let m = address(bytes, h);
     let by_address = conditions::address_refusal(m);
     if by_address != 0 {
-        return Begun::Refused(by_address);
+        return refused(by_address, field_at(by_address, h));
     }
     Begun::Address(m)
 }
 
 // Where the protected part, all after the key id, starts and how long it is: of a plain message at
-// the end, and empty. Or the refusal, 1 to 9.
+// the end, and empty. Or the refusal, 1 to 9, with the byte at fault.
 pub fn read_outer(bytes: &[u8]) -> OuterReading
     ensures { λ r. ⌜ r ≡ outerOf (now (bytes .entry)) ⌝ }
 {
@@ -130,6 +147,6 @@ pub fn read_outer(bytes: &[u8]) -> OuterReading
             }
             OuterReading::Protected(bytes.len(), 0)
         }
-        Begun::Refused(number) => OuterReading::Refused(Refusal { number }),
+        Begun::Refused(refusal) => OuterReading::Refused(refusal),
     }
 }

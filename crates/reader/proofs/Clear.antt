@@ -1,22 +1,23 @@
 -- What bytes that are taken have: each condition of a refusal is false. Assumes nothing.
-use Prim.Native.Nat.{ℕ, zero, suc, _+_, _≤_}
+use Prim.Native.Nat.{ℕ, _+_, _≤_}
 use mathlib.Core.Path.{_≡_, refl, sym, ap, subst, _∙_}
 use mathlib.Core.Bool.{Bool, true, false, _&&_, cond}
 use mathlib.Core.List.{List, [], _∷_, _++_}
 use native.Mathlib.Omega.{arith}
 use borrow.Author.Tests.{ltb-false, eqb-true, not-false}
-use lib.Dec.{ltb}
+use lib.Dec.{eqb, ltb}
 use lib.ListN.{length, getD}
-use Rattle.message.specs.Order.{Condition, _when_, first, noneOf}
+use Rattle.message.specs.Order.{Condition, condition, firstRefusal, noneOf}
 use Rattle.message.specs.Layout.{only, bodyOf, checkLength, headLength}
 use Rattle.message.specs.Value.{exchangeHeader, messageOf}
 use Rattle.message.specs.Refusals.{badExchange, oldAsks, badPacket, noRoom}
-use Rattle.message.specs.Answers.{headOf, reading}
+use Rattle.message.specs.Answers.{headOf, asTaken, reading}
 use Rattle.reader.specs.Reading.{exchangeOrder, tunnelOrder, bodyOrder, readingOrder, readOf}
 use Rattle.message.specs.declared.value.Message.{Message}
 use Rattle.message.specs.declared.answers.Head.{Head}
-use Rattle.message.specs.declared.answers.Reading.the-variants.{Taken}
-use Rattle.message.proofs.Order.{numbered, none-first}
+use Rattle.message.specs.declared.answers.Refusal.{Refusal}
+use Rattle.message.specs.declared.answers.Reading.the-variants.{Taken, Refused}
+use Rattle.message.proofs.Order.{there-is-none, numbered, none-first}
 use Rattle.outer.specs.Outer.{outerOrder}
 use Rattle.outer.proofs.Clear.{ClearOuter, outer-clear}
 
@@ -45,11 +46,11 @@ tunnel-clear bytes m h = record { version = eqb-true _ _ (not-false _ (h .0)); p
 -- where none of two orders' conditions holds, none of either's does
 pub none-left : (a b : List Condition) → noneOf (a ++ b) → noneOf a
 none-left [] b h = tt
-none-left (n when t ∷ a) b h = (h .0, none-left a b (h .1))
+none-left (condition n t k ∷ a) b h = (h .0, none-left a b (h .1))
 
 pub none-right : (a b : List Condition) → noneOf (a ++ b) → noneOf b
 none-right [] b h = h
-none-right (n when t ∷ a) b h = none-right a b (h .1)
+none-right (condition n t k ∷ a) b h = none-right a b (h .1)
 
 pub all-clear : (bytes : List ℕ) → noneOf (readingOrder bytes) → Clear bytes (messageOf bytes)
 unfolding readingOrder bodyOrder
@@ -68,9 +69,16 @@ unfolding outerOrder tunnelOrder exchangeOrder
 reading-numbered bytes m true = refl
 reading-numbered bytes m false = refl
 
-taken-of : (n : ℕ) (v m : Message) (h : Head) → reading n v ≡ Taken m h → (n ≡ 0) × (v ≡ m) × (headOf v ≡ h)
-taken-of zero v m h e = (refl, cc, cc)
-taken-of (suc n) v m h e = let z : _≡_ {A = ℕ} 0 1 = cc in let w : ⊥ = omega arith in absurd w
+-- an order of which no condition holds takes the value
+pub none-taken : (r : Refusal) (m : Message) → r .number ≡ 0 → reading r m ≡ asTaken m
+none-taken r m e = there-is-none r (asTaken m) (Refused r) e
+
+taken-of : (r : Refusal) (v m : Message) (h : Head) → reading r v ≡ Taken m h → (r .number ≡ 0) × (v ≡ m) × (headOf v ≡ h)
+taken-of r v m h e = let p = go (eqb (r .number) 0) e in (eqb-true _ _ (p .0), p .1, p .2)
+  where
+    go : (b : Bool) → cond b (asTaken v) (Refused r) ≡ Taken m h → (b ≡ true) × (v ≡ m) × (headOf v ≡ h)
+    go true e = (refl, cc, cc)
+    go false e = let z : _≡_ {A = ℕ} 0 1 = cc in let w : ⊥ = omega arith in absurd w
 
 -- a message that was taken is legal
 pub taken-legal : (bytes : List ℕ) (m : Message) {h : Head} → readOf bytes ≡ Taken m h → noneOf (readingOrder bytes)
@@ -82,14 +90,14 @@ taken-legal bytes m e =
 pub taken : (bytes : List ℕ) (m : Message) {h : Head} → readOf bytes ≡ Taken m h → (messageOf bytes ≡ m) × Clear bytes m
 unfolding readOf
 taken bytes m e =
-    let v = taken-of (first (readingOrder bytes)) (messageOf bytes) m _ e .1 in
+    let v = taken-of (firstRefusal (readingOrder bytes)) (messageOf bytes) m _ e .1 in
     (v, rw v at (all-clear bytes (taken-legal bytes m e)))
 
 -- and the head that was given is the value's
 pub head-taken : (bytes : List ℕ) (m : Message) (h : Head) → readOf bytes ≡ Taken m h → h ≡ headOf m
 unfolding readOf
 head-taken bytes m h e =
-    let p = taken-of (first (readingOrder bytes)) (messageOf bytes) m h e in
+    let p = taken-of (firstRefusal (readingOrder bytes)) (messageOf bytes) m h e in
     sym (p .2) ∙ ap headOf (p .1)
 
 fits-by : (t a : Bool) (body check n : ℕ) → body + cond t 2 8 + check ≤ n

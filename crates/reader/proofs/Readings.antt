@@ -1,18 +1,19 @@
 -- Reading after outer reading: what its answer is, and which bytes are there. Assumes nothing.
-use Prim.Native.Nat.{ℕ, zero, suc, _+_, _≤_}
-use mathlib.Core.Path.{_≡_, refl, sym, ap, ap₂, subst, _∙_}
+use Prim.Native.Nat.{ℕ, _+_, _≤_}
+use mathlib.Core.Path.{_≡_, sym, ap, ap₂, subst, _∙_}
 use mathlib.Core.Bool.{Bool, true, false, not, cond}
 use mathlib.Core.List.{List}
 use native.Mathlib.Omega.{arith}
 use lib.ListN.{length}
 use Rattle.wire.specs.Bytes.{part, little}
-use Rattle.message.specs.Order.{first}
+use Rattle.message.specs.Order.{firstRefusal}
 use Rattle.message.specs.Layout.{only, bodyOf, checkLength}
 use Rattle.message.specs.Value.{bit, header, bodyBy, exchangeHeader, addressOf, exchangedBy, messageOf, flagsOf}
-use Rattle.message.specs.Answers.{refusal, reading}
+use Rattle.message.specs.Answers.{asTaken, reading}
 use Rattle.message.specs.declared.value.Message.{Message}
+use Rattle.message.specs.declared.answers.Refusal.{Refusal}
 use Rattle.message.specs.declared.answers.Reading.the-variants as Reading
-use Rattle.message.proofs.Order.{first-pass, first-hit}
+use Rattle.message.proofs.Order.{there-is, numberOf, first-pass, first-hit}
 use Rattle.outer.specs.Outer.{outerOrder}
 use Rattle.outer.specs.Steps.{fixedAt, begunOf}
 use Rattle.outer.specs.declared.outer.Begun.the-variants.{Address, Refused}
@@ -22,18 +23,18 @@ use Rattle.reader.specs.Reading.{exchangeOrder, tunnelOrder, bodyOrder, 
 use Rattle.reader.specs.Steps.{exchanged, exchangeOf, tunnelOf}
 use Rattle.reader.proofs.Steps.{address-tunnelled, address-exchanged}
 
-reading-hit : (n : ℕ) (m : Message) → (n ≡ 0 → ⊥) → reading n m ≡ Reading.Refused (refusal n)
-reading-hit zero m h = absurd (h refl)
-reading-hit (suc n) m h = refl
+pub reading-hit : (r : Refusal) (m : Message) → (r .number ≡ 0 → ⊥) → reading r m ≡ Reading.Refused r
+reading-hit r m h = there-is r (asTaken m) (Reading.Refused r) h
 
 -- ---- outer reading refused
 
-pub read-refused : (bytes : List ℕ) (k : ℕ) → begunOf bytes ≡ Refused k → readOf bytes ≡ Reading.Refused (refusal k)
+pub read-refused : (bytes : List ℕ) (r : Refusal) → begunOf bytes ≡ Refused r → readOf bytes ≡ Reading.Refused r
 unfolding readOf readingOrder
-read-refused bytes k e =
-    let r = refused-first bytes k e in
-    ap (λ (n : ℕ). reading n (messageOf bytes)) (first-hit (outerOrder bytes (messageOf bytes)) (bodyOrder bytes (messageOf bytes)) (λ z. r .1 (sym (r .0) ∙ z)) ∙ r .0)
-    ∙ reading-hit k (messageOf bytes) (r .1)
+read-refused bytes r e =
+    let p = refused-first bytes r e in
+    ap (λ (q : Refusal). reading q (messageOf bytes))
+    (first-hit (outerOrder bytes (messageOf bytes)) (bodyOrder bytes (messageOf bytes)) (λ z. p .1 (sym (ap numberOf (p .0)) ∙ z)) ∙ p .0)
+    ∙ reading-hit r (messageOf bytes) (p .1)
 
 -- ---- outer reading gave the value up to the key id
 
@@ -72,21 +73,21 @@ module _ (bytes : List ℕ) (m : Message) (e : begunOf bytes ≡ Address m) wher
       let k = check-is in
       omega (arith, ap {B = ℕ} (λ (k : Bool). cond k 2 8) (sym kind ∙ t))
 
-  to-body : readOf bytes ≡ reading (first (bodyOrder bytes (messageOf bytes))) (messageOf bytes)
+  to-body : readOf bytes ≡ reading (firstRefusal (bodyOrder bytes (messageOf bytes))) (messageOf bytes)
   unfolding readOf readingOrder
   to-body =
-      ap (λ (n : ℕ). reading n (messageOf bytes))
+      ap (λ (r : Refusal). reading r (messageOf bytes))
       (first-pass (outerOrder bytes (messageOf bytes)) (bodyOrder bytes (messageOf bytes)) (outer-numbered bytes (messageOf bytes)) (outer-none bytes m e))
 
-  by-tunnel : m .tunnelled ≡ true → reading (first (bodyOrder bytes m)) m ≡ reading (first (tunnelOrder bytes m)) m
+  by-tunnel : m .tunnelled ≡ true → reading (firstRefusal (bodyOrder bytes m)) m ≡ reading (firstRefusal (tunnelOrder bytes m)) m
   unfolding bodyOrder
-  by-tunnel t = ap (λ (k : Bool). reading (first (cond k (tunnelOrder bytes m) (exchangeOrder (exchangeHeader bytes) (length bytes) m))) m) t
+  by-tunnel t = ap (λ (k : Bool). reading (firstRefusal (cond k (tunnelOrder bytes m) (exchangeOrder (exchangeHeader bytes) (length bytes) m))) m) t
 
   pub read-tunnelled : m .tunnelled ≡ true → readOf bytes ≡ tunnelOf bytes m
   unfolding tunnelOf
   read-tunnelled t =
       let v : m ≡ messageOf bytes = sym given ∙ address-tunnelled bytes (sym kind ∙ t) in
-      to-body ∙ subst (λ (w : Message). reading (first (bodyOrder bytes w)) w ≡ reading (first (tunnelOrder bytes m)) m) v (by-tunnel t)
+      to-body ∙ subst (λ (w : Message). reading (firstRefusal (bodyOrder bytes w)) w ≡ reading (firstRefusal (tunnelOrder bytes m)) m) v (by-tunnel t)
 
   value-is : m .tunnelled ≡ false → messageOf bytes ≡ exchanged m bytes (bodyOf m)
   value-is t =
@@ -97,16 +98,16 @@ module _ (bytes : List ℕ) (m : Message) (e : begunOf bytes ≡ Address m) wher
   header-is t = ap₂ (λ (b : Bool) (n : ℕ). little (part bytes n (only (not b) 1))) (sym kind ∙ t) (sym body-is)
 
   by-exchange : m .tunnelled ≡ false
-      → reading (first (bodyOrder bytes (exchanged m bytes (bodyOf m)))) (exchanged m bytes (bodyOf m))
-      ≡ reading (first (exchangeOrder (exchangeHeader bytes) (length bytes) (exchanged m bytes (bodyOf m)))) (exchanged m bytes (bodyOf m))
+      → reading (firstRefusal (bodyOrder bytes (exchanged m bytes (bodyOf m)))) (exchanged m bytes (bodyOf m))
+      ≡ reading (firstRefusal (exchangeOrder (exchangeHeader bytes) (length bytes) (exchanged m bytes (bodyOf m)))) (exchanged m bytes (bodyOf m))
   unfolding bodyOrder exchangedBy
   by-exchange t =
-      ap (λ (k : Bool). reading (first (cond k (tunnelOrder bytes (exchanged m bytes (bodyOf m))) (exchangeOrder (exchangeHeader bytes) (length bytes) (exchanged m bytes (bodyOf m))))) (exchanged m bytes (bodyOf m))) t
+      ap (λ (k : Bool). reading (firstRefusal (cond k (tunnelOrder bytes (exchanged m bytes (bodyOf m))) (exchangeOrder (exchangeHeader bytes) (length bytes) (exchanged m bytes (bodyOf m))))) (exchanged m bytes (bodyOf m))) t
 
   pub read-general : m .tunnelled ≡ false → readOf bytes ≡ exchangeOf bytes m
   unfolding exchangeOf
   read-general t =
       to-body
-      ∙ ap (λ (w : Message). reading (first (bodyOrder bytes w)) w) (value-is t)
+      ∙ ap (λ (w : Message). reading (firstRefusal (bodyOrder bytes w)) w) (value-is t)
       ∙ by-exchange t
-      ∙ ap (λ (x : ℕ). reading (first (exchangeOrder x (length bytes) (exchanged m bytes (bodyOf m)))) (exchanged m bytes (bodyOf m))) (header-is t)
+      ∙ ap (λ (x : ℕ). reading (firstRefusal (exchangeOrder x (length bytes) (exchanged m bytes (bodyOf m)))) (exchanged m bytes (bodyOf m))) (header-is t)

@@ -9,11 +9,11 @@ use borrow.Author.Tests.{lt-ltb, le-ltb}
 use lib.Dec.{eqb, ltb}
 use lib.ListN.{length, getD}
 use Rattle.wire.specs.Bytes.{part, little}
-use Rattle.message.specs.Order.{_when_, first}
+use Rattle.message.specs.Order.{_when_, _at-byte_, firstRefusal}
 use Rattle.message.specs.Layout.{only, bodyOf, checkLength}
 use Rattle.message.specs.Value.{bit, header, bodyBy, addressOf, exchangedBy, messageOf}
 use Rattle.message.specs.Refusals.{badExchange, oldAsks, badTunnel, badPacket, noRoom}
-use Rattle.message.specs.Answers.{refusal, asTaken, reading}
+use Rattle.message.specs.Answers.{asTaken, reading}
 use Rattle.message.specs.declared.value.Message.{Message}
 use Rattle.message.specs.declared.answers.Reading.the-variants.{Refused}
 use Rattle.reader.specs.Reading.{exchangeOrder, tunnelOrder}
@@ -40,17 +40,16 @@ exchanged-fields m bytes at x kind exchange profile acknowledged a b c d e = sim
 
 -- a tunnelled message, whose version stands at `at`: the version is refused, the packet is, neither is
 module _ (bytes : List ℕ) (m : Message) (at : ℕ) (e : at ≡ bodyOf m) where
-  by-tunnel : (v p : Bool) → badTunnel (getD bytes at 0) ≡ v → badPacket (getD bytes (at + 1) 0) ≡ p → tunnelOf bytes m ≡ reading (first (12 when v ∷ 13 when p ∷ [])) m
+  by-tunnel : (v p : Bool) → badTunnel (getD bytes at 0) ≡ v → badPacket (getD bytes (at + 1) 0) ≡ p → tunnelOf bytes m ≡ reading (firstRefusal (12 when v at-byte at ∷ 13 when p at-byte (at + 1) ∷ [])) m
   unfolding tunnelOf tunnelOrder
   by-tunnel v p f g =
-      ap₂ (λ (a b : Bool). reading (first (12 when a ∷ 13 when b ∷ [])) m)
-      (ap (λ (i : ℕ). badTunnel (getD bytes i 0)) (sym e) ∙ f)
-      (ap (λ (i : ℕ). badPacket (getD bytes (i + 1) 0)) (sym e) ∙ g)
+      ap (λ (i : ℕ). reading (firstRefusal (12 when badTunnel (getD bytes i 0) at-byte i ∷ 13 when badPacket (getD bytes (i + 1) 0) at-byte (i + 1) ∷ [])) m) (sym e)
+      ∙ ap₂ (λ (a b : Bool). reading (firstRefusal (12 when a at-byte at ∷ 13 when b at-byte (at + 1) ∷ [])) m) f g
 
-  pub tunnel-version : badTunnel (getD bytes at 0) ≡ true → tunnelOf bytes m ≡ Refused (refusal 12)
+  pub tunnel-version : badTunnel (getD bytes at 0) ≡ true → tunnelOf bytes m ≡ Refused (record { number = 12; offset = at })
   tunnel-version f = by-tunnel true _ f refl
 
-  pub tunnel-packet : badTunnel (getD bytes at 0) ≡ false → badPacket (getD bytes (at + 1) 0) ≡ true → tunnelOf bytes m ≡ Refused (refusal 13)
+  pub tunnel-packet : badTunnel (getD bytes at 0) ≡ false → badPacket (getD bytes (at + 1) 0) ≡ true → tunnelOf bytes m ≡ Refused (record { number = 13; offset = at + 1 })
   tunnel-packet f g = by-tunnel false true f g
 
   pub tunnel-whole : badTunnel (getD bytes at 0) ≡ false → badPacket (getD bytes (at + 1) 0) ≡ false → tunnelOf bytes m ≡ asTaken m
@@ -59,17 +58,17 @@ module _ (bytes : List ℕ) (m : Message) (at : ℕ) (e : at ≡ bodyOf m) where
 -- a general one, whose exchange header is x: the header is refused, A or R is, what is left to decide is A's room
 module _ (bytes : List ℕ) (m : Message) (x : ℕ) (e : x ≡ little (part bytes (bodyOf m) 1)) where
   by-header : (b o : Bool) → badExchange x ≡ b → oldAsks (m .version) (bit x 1) (bit x 2) ≡ o
-      → exchangeOf bytes m ≡ reading (first (10 when b ∷ 11 when o ∷ 2 when noRoom (length bytes) (exchanged m bytes (bodyOf m)) ∷ [])) (exchanged m bytes (bodyOf m))
+      → exchangeOf bytes m ≡ reading (firstRefusal (10 when b at-byte bodyOf m ∷ 11 when o at-byte bodyOf m ∷ 2 when noRoom (length bytes) (exchanged m bytes (bodyOf m)) at-byte length bytes ∷ [])) (exchanged m bytes (bodyOf m))
   unfolding exchangeOf exchangeOrder exchangedBy
   by-header b o f g =
-      ap₂ (λ (c d : Bool). reading (first (10 when c ∷ 11 when d ∷ 2 when noRoom (length bytes) (exchanged m bytes (bodyOf m)) ∷ [])) (exchanged m bytes (bodyOf m)))
+      ap₂ (λ (c d : Bool). reading (firstRefusal (10 when c at-byte bodyOf m ∷ 11 when d at-byte bodyOf m ∷ 2 when noRoom (length bytes) (exchanged m bytes (bodyOf m)) at-byte length bytes ∷ [])) (exchanged m bytes (bodyOf m)))
       (ap badExchange (sym e) ∙ f)
       (ap (λ (y : ℕ). oldAsks (m .version) (bit y 1) (bit y 2)) (sym e) ∙ g)
 
-  pub exchange-header : badExchange x ≡ true → exchangeOf bytes m ≡ Refused (refusal 10)
+  pub exchange-header : badExchange x ≡ true → exchangeOf bytes m ≡ Refused (record { number = 10; offset = bodyOf m })
   exchange-header f = by-header true _ f refl
 
-  pub exchange-asks : badExchange x ≡ false → oldAsks (m .version) (bit x 1) (bit x 2) ≡ true → exchangeOf bytes m ≡ Refused (refusal 11)
+  pub exchange-asks : badExchange x ≡ false → oldAsks (m .version) (bit x 1) (bit x 2) ≡ true → exchangeOf bytes m ≡ Refused (record { number = 11; offset = bodyOf m })
   exchange-asks f g = by-header false true f g
 
   pub exchange-fields : badExchange x ≡ false → oldAsks (m .version) (bit x 1) (bit x 2) ≡ false → exchangeOf bytes m ≡ fieldsOf bytes m
@@ -89,10 +88,10 @@ module _ (bytes : List ℕ) (m : Message) (end : ℕ) (t : m .tunnelled ≡ fals
   x : ℕ
   x = little (part bytes (bodyOf m) 1)
 
-  by-room : (r : Bool) → (bit x 1 && ltb (length bytes) end) ≡ r → fieldsOf bytes m ≡ reading (first (2 when r ∷ [])) (exchanged m bytes (bodyOf m))
+  by-room : (r : Bool) → (bit x 1 && ltb (length bytes) end) ≡ r → fieldsOf bytes m ≡ reading (firstRefusal (2 when r at-byte length bytes ∷ [])) (exchanged m bytes (bodyOf m))
   unfolding x fieldsOf
   by-room r h =
-      ap (λ (b : Bool). reading (first (2 when b ∷ [])) (exchanged m bytes (bodyOf m)))
+      ap (λ (b : Bool). reading (firstRefusal (2 when b at-byte length bytes ∷ [])) (exchanged m bytes (bodyOf m)))
       (room-steps (length bytes) m bytes (bodyOf m) (little (part bytes (bodyOf m) 1)) end t n ∙ h)
 
   -- without A; with A and no room for its bytes; with A and room
@@ -100,7 +99,7 @@ module _ (bytes : List ℕ) (m : Message) (end : ℕ) (t : m .tunnelled ≡ fals
   unfolding x
   fields-bare h = by-room false (ap (λ (a : Bool). a && ltb (length bytes) end) h)
 
-  pub fields-lack : bit (little (part bytes (bodyOf m) 1)) 1 ≡ true → length bytes < end → fieldsOf bytes m ≡ Refused (refusal 2)
+  pub fields-lack : bit (little (part bytes (bodyOf m) 1)) 1 ≡ true → length bytes < end → fieldsOf bytes m ≡ Refused (record { number = 2; offset = length bytes })
   unfolding x
   fields-lack h l = by-room true (ap (λ (a : Bool). a && ltb (length bytes) end) h ∙ lt-ltb _ _ l)
 

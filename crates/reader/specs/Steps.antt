@@ -4,7 +4,7 @@ use mathlib.Core.Bool.{true}
 use mathlib.Core.List.{List, [], _∷_}
 use lib.ListN.{length}
 use Rattle.wire.specs.Bytes.{part, little}
-use Rattle.message.specs.Order.{_when_, first}
+use Rattle.message.specs.Order.{_when_, _at-byte_, firstRefusal}
 use Rattle.message.specs.Layout.{bodyOf}
 use Rattle.message.specs.Value.{exchangedBy}
 use Rattle.message.specs.Refusals.{noRoom}
@@ -19,12 +19,12 @@ exchanged m bytes at = exchangedBy true m bytes at (little (part bytes at 1))
 
 -- the answers for the two kinds of message that outer reading took, from its value
 unfoldable pub tunnelOf : List ℕ → Message → Reading
-tunnelOf bytes m = reading (first (tunnelOrder bytes m)) m
+tunnelOf bytes m = reading (firstRefusal (tunnelOrder bytes m)) m
 
 -- of a general one whose exchange header is good, what is left to decide is A's room
 unfoldable pub fieldsOf : List ℕ → Message → Reading
-fieldsOf bytes m = reading (first (2 when noRoom (length bytes) (exchanged m bytes (bodyOf m)) ∷ [])) (exchanged m bytes (bodyOf m))
+fieldsOf bytes m = reading (firstRefusal (2 when noRoom (length bytes) (exchanged m bytes (bodyOf m)) at-byte length bytes ∷ [])) (exchanged m bytes (bodyOf m))
 
 unfoldable pub exchangeOf : List ℕ → Message → Reading
 exchangeOf bytes m =
-    reading (first (exchangeOrder (little (part bytes (bodyOf m) 1)) (length bytes) (exchanged m bytes (bodyOf m)))) (exchanged m bytes (bodyOf m))
+    reading (firstRefusal (exchangeOrder (little (part bytes (bodyOf m) 1)) (length bytes) (exchanged m bytes (bodyOf m)))) (exchanged m bytes (bodyOf m))

@@ -18,11 +18,11 @@ use message::Refusal;
 use message::layout;
 use outer::Begun;
 
-// A refusal by its number.
-fn refused(number: u8) -> Reading
-    ensures { λ r. ⌜ r ≡ Reading.Refused (record { number = number }) ⌝ }
+// A refusal by its number and the byte at fault.
+fn refused(number: u8, offset: usize) -> Reading
+    ensures { λ r. ⌜ r ≡ Reading.Refused (record { number = number; offset = offset }) ⌝ }
 {
-    Reading::Refused(Refusal { number })
+    Reading::Refused(Refusal { number, offset })
 }
 
 // 10: F is zero, or a reserved bit of the exchange header is set.
@@ -88,7 +88,7 @@ fn read_fields(m: Message, bytes: &[u8], at: usize, x: u8) -> Reading
     }
     let front = at + layout::ACKNOWLEDGED_AT + layout::ACKNOWLEDGED;
     if bytes.len() < front + message::check_length(m) {
-        return refused(Refusal::TOO_SHORT);
+        return refused(Refusal::TOO_SHORT, bytes.len());
     }
     whole(m, bytes, at, x, front)
 }
@@ -101,10 +101,10 @@ fn read_exchange(bytes: &[u8], m: Message) -> Reading
     let at = message::body_of(m);
     let x = wire::get8(&bytes[at..at + layout::EXCHANGE_HEADER]);
     if bad_exchange(x) {
-        return refused(Refusal::EXCHANGE);
+        return refused(Refusal::EXCHANGE, at);
     }
     if conditions::old_asks(m.version, x / layout::A % 2 == 1, x / layout::R % 2 == 1) {
-        return refused(Refusal::OLD_ASKS);
+        return refused(Refusal::OLD_ASKS, at);
     }
     read_fields(m, bytes, at, x)
 }
@@ -116,10 +116,10 @@ fn read_tunnel(bytes: &[u8], m: Message) -> Reading
 {
     let at = message::body_of(m);
     if bytes[at] != layout::TUNNEL_VERSION {
-        return refused(Refusal::TUNNEL);
+        return refused(Refusal::TUNNEL, at);
     }
     if conditions::bad_packet(bytes[at + layout::PACKET_AT]) {
-        return refused(Refusal::PACKET);
+        return refused(Refusal::PACKET, at + layout::PACKET_AT);
     }
     Reading::Taken(
         m,
@@ -130,7 +130,7 @@ fn read_tunnel(bytes: &[u8], m: Message) -> Reading
     )
 }
 
-// The value of a message, or the refusal. Every length gets an answer.
+// The value of a message, or the refusal with the byte at fault. Every length gets an answer.
 pub fn read(bytes: &[u8]) -> Reading
     ensures { λ r. ⌜ r ≡ readOf (now (bytes .entry)) ⌝ }
 {
@@ -142,6 +142,6 @@ pub fn read(bytes: &[u8]) -> Reading
             }
             read_exchange(bytes, m)
         }
-        Begun::Refused(number) => refused(number),
+        Begun::Refused(refusal) => Reading::Refused(refusal),
     }
 }

@@ -1,6 +1,6 @@
 -- What a removal leaves: the row of the name free and zero, all others as they were, and that row used again. Assumes nothing.
 use Prim.Native.Nat.{ℕ, _+_, _*_, _≤_, _<_}
-use mathlib.Core.Path.{_≡_, refl, ap, _∙_}
+use mathlib.Core.Path.{_≡_, refl, sym, ap, _∙_}
 use mathlib.Core.Bool.{Bool, true, false, not, cond}
 use mathlib.Core.List.{List}
 use native.Mathlib.Omega.{arith}
@@ -32,6 +32,15 @@ module _ (t : List ℕ) (node key : ℕ) where
       go : (b : Bool) → cond b Done (Refused (refusal 21)) ≡ Refused r → cond b (withRow t (findOf rows t node key) freed) t ≡ t
       go true e = let z : _≡_ {A = ℕ} 0 1 = cc in let w : ⊥ = omega arith in absurd w
       go false e = refl
+
+  -- A refusal of removing points at no byte.
+  pub removal-points-at-no-byte : (r : Refusal) → removeOf t node key ≡ Refused r → r .offset ≡ 0
+  unfolding removeOf
+  removal-points-at-no-byte r e = go (ltb (findOf rows t node key) rows) e
+    where
+      go : (b : Bool) → cond b Done (Refused (refusal 21)) ≡ Refused r → r .offset ≡ 0
+      go true e = let z : _≡_ {A = ℕ} 0 1 = cc in let w : ⊥ = omega arith in absurd w
+      go false e = let s : refusal 21 ≡ r = cc in sym (ap (λ (q : Refusal). q .offset) s)
 
   -- No removal changes another row than that of its name.
   pub removal-touches-one-row : (j : ℕ) → (j ≡ findOf rows t node key → ⊥) → rowOf (removeTable t node key) j ≡ rowOf t j

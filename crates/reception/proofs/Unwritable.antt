@@ -7,17 +7,18 @@ use native.Mathlib.Omega.{arith}
 use borrow.Author.Tests.{eqb-false, not-true}
 use lib.Dec.{eqb, ltb}
 use lib.ListN.{length}
-use Rattle.message.specs.Order.{Condition, _when_, first, noneOf}
+use Rattle.message.specs.Order.{Condition, condition, _when_, first, noneOf}
 use Rattle.message.specs.Layout.{only, encrypted}
 use Rattle.message.specs.Value.{exchangeHeader, messageOf}
 use Rattle.message.specs.Refusals.{badEncrypt, badKey, nobody, total, addressOrder}
-use Rattle.message.specs.Answers.{asTaken, reading, writing}
+use Rattle.message.specs.Answers.{asTaken, writing}
 use Rattle.message.specs.declared.value.Message.{Message}
-use Rattle.message.proofs.Logic.{clash, or-false}
+use Rattle.message.specs.declared.answers.Refusal.{Refusal}
+use Rattle.message.proofs.Logic.{clash, and-true, or-false}
 use Rattle.message.proofs.Order.{first-miss, first-hit, none-first}
 use Rattle.outer.specs.Outer.{outerOrder}
 use Rattle.reader.specs.Reading.{exchangeOrder, tunnelOrder, bodyOrder, readingOrder, readOf}
-use Rattle.reader.proofs.Clear.{taken, taken-legal}
+use Rattle.reader.proofs.Clear.{none-taken, taken, taken-legal}
 use Rattle.writer.specs.Steps.{acknowledgingOrder}
 use Rattle.writer.specs.Acknowledgement.{acknowledgementOf, acknowledging}
 use Rattle.writer.proofs.Bare.{judged-is}
@@ -30,16 +31,12 @@ use Rattle.reception.proofs.Orders.{link-is-sender}
 
 abbrev lacks : ℕ → List Condition → Bool
 lacks n [] = true
-lacks n (k when holds ∷ rest) = not (eqb k n) && lacks n rest
-
-both : (a b : Bool) → (a && b) ≡ true → (a ≡ true) × (b ≡ true)
-both true b e = (refl, e)
-both false b e = clash false e refl
+lacks n (condition k holds at ∷ rest) = not (eqb k n) && lacks n rest
 
 not-said : (n : ℕ) (order : List Condition) → lacks (suc n) order ≡ true → first order ≡ suc n → ⊥
 not-said n [] k e = omega arith
-not-said n (j when true ∷ rest) k e = eqb-false j (suc n) (not-true _ (both (not (eqb j (suc n))) (lacks (suc n) rest) k .0)) e
-not-said n (j when false ∷ rest) k e = not-said n rest (both (not (eqb j (suc n))) (lacks (suc n) rest) k .1) e
+not-said n (condition j true at ∷ rest) k e = eqb-false j (suc n) (not-true _ (and-true (not (eqb j (suc n))) (lacks (suc n) rest) k .0)) e
+not-said n (condition j false at ∷ rest) k e = not-said n rest (and-true (not (eqb j (suc n))) (lacks (suc n) rest) k .1) e
 
 reading-lacks : (bytes : List ℕ) → lacks 22 (readingOrder bytes) ≡ true
 unfolding readingOrder outerOrder bodyOrder tunnelOrder exchangeOrder
@@ -59,7 +56,7 @@ module _ (own sender id : ℕ) (m : Message) (room : ℕ)
     unfolding acknowledgingOrder addressOrder acknowledgementOf
     for-room-only =
         ap unwritable (sym (judged-is own sender id m room refl refl))
-        ∙ ap (λ (n : ℕ). unwritable (writing n (total (acknowledgementOf own sender id m) [])))
+        ∙ ap (λ (r : Refusal). unwritable (writing (r .number) (total (acknowledgementOf own sender id m) [])))
         (first-miss (6 when badEncrypt (m .encrypt) ∷ addressOrder (acknowledgementOf own sender id m)) (19 when ltb room (total (acknowledgementOf own sender id m) []) ∷ [])
         (encrypt, (kept (encrypted m) refl, (ours, (or-false _ _ theirs .0, tt)))))
         ∙ go (ltb room (total (acknowledgementOf own sender id m) [])) (total (acknowledgementOf own sender id m) [])
@@ -73,6 +70,9 @@ module _ (own sender id : ℕ) (m : Message) (room : ℕ)
         go false len = refl
 
 -- ---- receiving
+
+abbrev number : Refusal → ℕ
+number r = r .number
 
 module _ (b : Beside) (bytes : List ℕ) (full : Bool) where
   -- nothing before it refuses, and it does not itself
@@ -101,17 +101,17 @@ module _ (b : Beside) (bytes : List ℕ) (full : Bool) where
       by-delivery : nobody (b .own) ≡ false → readOf bytes ≡ asTaken (messageOf bytes) → (k : ℕ) → first (deliveryOrder (b .own) (b .link) (b .passed) (messageOf bytes)) ≡ k → first (afterReading b (messageOf bytes) full) ≡ 22 → ⊥
       by-delivery own was zero f e =
           let none = none-first (deliveryOrder (b .own) (b .link) (b .passed) (messageOf bytes)) refl f in
-          at-last own was none (sym (first-miss (deliveryOrder (b .own) (b .link) (b .passed) (messageOf bytes)) (admissionOrder (answerTo b (messageOf bytes)) (b .room) (messageOf bytes) full) none) ∙ e)
+          at-last own was none (sym (ap number (first-miss (deliveryOrder (b .own) (b .link) (b .passed) (messageOf bytes)) (admissionOrder (answerTo b (messageOf bytes)) (b .room) (messageOf bytes) full) none)) ∙ e)
       by-delivery own was (suc k) f e =
           not-said 21 (deliveryOrder (b .own) (b .link) (b .passed) (messageOf bytes)) refl
-          (sym (first-hit (deliveryOrder (b .own) (b .link) (b .passed) (messageOf bytes)) (admissionOrder (answerTo b (messageOf bytes)) (b .room) (messageOf bytes) full) (λ z. let w : suc k ≡ 0 = sym f ∙ z in omega arith)) ∙ e)
+          (sym (ap number (first-hit (deliveryOrder (b .own) (b .link) (b .passed) (messageOf bytes)) (admissionOrder (answerTo b (messageOf bytes)) (b .room) (messageOf bytes) full) (λ z. let w : suc k ≡ 0 = sym f ∙ z in omega arith))) ∙ e)
 
       by-reading : nobody (b .own) ≡ false → (k : ℕ) → first (readingOrder bytes) ≡ k → first (readingOrder bytes ++ afterReading b (messageOf bytes) full) ≡ 22 → ⊥
       by-reading own zero f e =
-          let was : readOf bytes ≡ asTaken (messageOf bytes) = ap (λ (k : ℕ). reading k (messageOf bytes)) f in
-          by-delivery own was (first (deliveryOrder (b .own) (b .link) (b .passed) (messageOf bytes))) refl (sym (first-miss (readingOrder bytes) (afterReading b (messageOf bytes) full) (taken-legal bytes (messageOf bytes) was)) ∙ e)
+          let was : readOf bytes ≡ asTaken (messageOf bytes) = none-taken _ (messageOf bytes) f in
+          by-delivery own was (first (deliveryOrder (b .own) (b .link) (b .passed) (messageOf bytes))) refl (sym (ap number (first-miss (readingOrder bytes) (afterReading b (messageOf bytes) full) (taken-legal bytes (messageOf bytes) was))) ∙ e)
       by-reading own (suc k) f e =
-          not-said 21 (readingOrder bytes) (reading-lacks bytes) (sym (first-hit (readingOrder bytes) (afterReading b (messageOf bytes) full) (λ z. let w : suc k ≡ 0 = sym f ∙ z in omega arith)) ∙ e)
+          not-said 21 (readingOrder bytes) (reading-lacks bytes) (sym (ap number (first-hit (readingOrder bytes) (afterReading b (messageOf bytes) full) (λ z. let w : suc k ≡ 0 = sym f ∙ z in omega arith))) ∙ e)
 
       by-own : (x : Bool) → nobody (b .own) ≡ x → first (15 when x ∷ readingOrder bytes ++ afterReading b (messageOf bytes) full) ≡ 22 → ⊥
       by-own true own e = omega arith

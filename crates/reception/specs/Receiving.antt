@@ -3,7 +3,7 @@ use Prim.Native.Nat.{ℕ, _-_, _^_}
 use mathlib.Core.Bool.{Bool, not, _&&_, _||_, cond}
 use mathlib.Core.List.{List, [], _∷_, _++_}
 use lib.Dec.{eqb}
-use Rattle.message.specs.Order.{Condition, _when_, first}
+use Rattle.message.specs.Order.{Condition, _when_, firstRefusal}
 use Rattle.message.specs.Layout.{encrypted}
 use Rattle.message.specs.Value.{messageOf}
 use Rattle.message.specs.Refusals.{nobody}
@@ -67,14 +67,14 @@ receivingOrder b bytes full = 15 when nobody (b .own) ∷ readingOrder bytes ++ 
 abbrev pub deliverOf : Beside → Message → Head → List ℕ → Received
 deliverOf b m h t =
     let sender = senderOf (b .link) m in
-    answerOf (first (afterReading b m (noRow t sender (m .key)))) (verdictIn t sender m) (answerTo b m) m h
+    answerOf (firstRefusal (afterReading b m (noRow t sender (m .key)))) (verdictIn t sender m) (answerTo b m) m h
 
 -- the answer to bytes, by the table
 unfoldable pub receiveOf : Beside → List ℕ → List ℕ → Received
 receiveOf b bytes t =
     let m = messageOf bytes in
     let sender = senderOf (b .link) m in
-    answerOf (first (receivingOrder b bytes (noRow t sender (m .key)))) (verdictIn t sender m) (answerTo b m) m (headOf m)
+    answerOf (firstRefusal (receivingOrder b bytes (noRow t sender (m .key)))) (verdictIn t sender m) (answerTo b m) m (headOf m)
 
 -- the table after receiving
 unfoldable pub receiveTable : Beside → List ℕ → List ℕ → List ℕ

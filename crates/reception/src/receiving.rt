@@ -14,11 +14,11 @@ use message::Refusal;
 use message::layout;
 use table::WORDS;
 
-// A refusal by its number.
+// A refusal by its number, which is about no byte of the message.
 fn refused(number: u8) -> Received
-    ensures { λ r. ⌜ r ≡ Received.Refused (record { number = number }) ⌝ }
+    ensures { λ r. ⌜ r ≡ Received.Refused (record { number = number; offset = 0 }) ⌝ }
 {
-    Received::Refused(Refusal { number })
+    Received::Refused(Refusal { number, offset: 0 })
 }
 
 // 16
@@ -92,7 +92,7 @@ fn deliver(
 
 // Receives a message: `own` is our node, `link` the node that the link names, `passed` the check
 // result, `id` the message id of an acknowledgement. In this order:
-// - 15, then whatever reading refuses, 16, 17, 18;
+// - 15, then whatever reading refuses, with its byte, 16, 17, 18;
 // - where an acknowledgement is wanted, 22 and 19;
 // - 20, before anything is written.
 // Then the acknowledgement stands at the front of `out`, and if the message is new its row in the

@@ -16,6 +16,7 @@ pub fn remove(table: &mut [u64; WORDS], node: u64, key: u16) -> Removed
     if ROWS <= found {
         return Removed::Refused(Refusal {
             number: Refusal::NO_ROW,
+            offset: 0,
         });
     }
     table_rows::put_row(table, found, Row::FREE);

@@ -1,11 +1,12 @@
 -- Which condition of restoring's order a refusal tells. Assumes nothing.
 use Prim.Native.Nat.{ℕ, zero, suc, _≤_, _<_}
-use mathlib.Core.Path.{_≡_, refl, ap}
+use mathlib.Core.Path.{_≡_, refl, sym, ap}
 use mathlib.Core.Bool.{Bool, true, false}
 use mathlib.Core.List.{List, [], _∷_}
 use native.Mathlib.Omega.{arith}
 use Rattle.message.specs.Order.{_when_, first}
 use Rattle.message.specs.Answers.{refusal}
+use Rattle.message.specs.declared.answers.Refusal.{Refusal}
 use Rattle.records.specs.Records.{wrongMark, badRow}
 use Rattle.records.specs.Restoring.{recordCount, recordAt, rowFrom, someBelow, badLength, namedBefore, restoringOrder, restored}
 use Rattle.records.specs.declared.answers.Restored.{Restored}
@@ -19,6 +20,15 @@ restored-number (suc k) n m e = let f : suc k ≡ n = ap number e in (f, omega a
     number : Restored → ℕ
     number (Placed i) = 0
     number (Refused r) = r .number
+
+-- and it points at no byte
+pub restored-at-no-byte : (k m : ℕ) (r : Refusal) → restored k m ≡ Refused r → r .offset ≡ 0
+restored-at-no-byte zero m r e = let z : _≡_ {A = ℕ} 0 1 = cc in let w : ⊥ = omega arith in absurd w
+restored-at-no-byte (suc k) m r e = sym (ap offset e)
+  where
+    offset : Restored → ℕ
+    offset (Placed i) = 0
+    offset (Refused r) = r .offset
 
 -- the first of the four that holds
 abbrev pub four : Bool → Bool → Bool → Bool → ℕ

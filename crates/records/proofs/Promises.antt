@@ -30,7 +30,8 @@ use Rattle.message.specs.Answers.{refusal, writing, writingNumber, bufferAfter}
 use Rattle.message.specs.declared.answers.Refusal.{Refusal}
 use Rattle.message.specs.declared.answers.Writing.{Writing}
 use Rattle.message.specs.declared.answers.Writing.the-variants as Writing
-use Rattle.message.proofs.Order.{FirstToHold, first-holds, holds-first}
+use Rattle.message.proofs.Order.{FirstToHold, number-first, first-number}
+use Rattle.message.proofs.Writings.{at-no-byte}
 use Rattle.table.specs.Table.{rows, emptyTable, rowOf, firstBelow, inUse, rowsInUse}
 use Rattle.table.proofs.Kept.{kept-none}
 use Rattle.table.proofs.Words.{empty-row}
@@ -41,7 +42,7 @@ use Rattle.records.specs.Sound.{Sound}
 use Rattle.records.specs.declared.answers.Restored.{Restored}
 use Rattle.records.specs.declared.answers.Restored.the-variants.{Placed, Refused}
 use Rattle.records.proofs.Conditions.{some-says, some-when, none-when, right-says, right-when, wrong-says, wrong-when, twice-says, twice-when}
-use Rattle.records.proofs.Decided.{four, unmarked, bad, twice, decided, restored-number, within, is-24, is-23, is-25, is-26}
+use Rattle.records.proofs.Decided.{four, unmarked, bad, twice, decided, restored-number, restored-at-no-byte, within, is-24, is-23, is-25, is-26}
 use Rattle.records.proofs.Placed.{none-below, is-taken}
 
 -- ---- saving
@@ -65,6 +66,11 @@ module _ (t : List ℕ) where
             let f : 19 ≡ n = ap writingNumber (sym (said true h) ∙ e) in
             (sym f, omega (arith, length-records (rowsInUse t), ltb-true room (length (savedBytes t)) h))
         go false h = let z : _≡_ {A = ℕ} 0 1 = cc (said false h, e) in let w : ⊥ = omega arith in absurd w
+
+    -- A refusal of saving points at no byte.
+    pub saving-points-at-no-byte : (r : Refusal) → saveOf t room ≡ Writing.Refused r → r .offset ≡ 0
+    unfolding saveOf
+    saving-points-at-no-byte r e = at-no-byte (first (savingOrder t room)) (length (savedBytes t)) r e
 
     -- Where there is room it writes as many bytes.
     pub saving-written-when : 18 * length (rowsInUse t) ≤ room → saveOf t room ≡ Writing.Written (18 * length (rowsInUse t))
@@ -123,22 +129,23 @@ empty-changes-nothing old = ap₂ (λ (w : Writing) (l : List ℕ). bufferAfter 
 
 module _ (bytes : List ℕ) where
   -- A number is said only where its condition is the first to hold in the order.
-  pub restoring-refused-first : (n : ℕ) → restoreOf bytes ≡ Refused (refusal n) → FirstToHold n (restoringOrder bytes)
-  unfolding restoreOf
-  restoring-refused-first n e = go n (restored-number (first (restoringOrder bytes)) n (recordCount bytes) e)
-    where
-      go : (k : ℕ) → (first (restoringOrder bytes) ≡ k) × (0 < k) → FirstToHold k (restoringOrder bytes)
-      go zero h = let l : 0 < 0 = h .1 in let z : ⊥ = omega arith in absurd z
-      go (suc k) h = holds-first k (restoringOrder bytes) (h .0)
+  pub restoring-refused-first : (n : ℕ) → restoreOf bytes ≡ Refused (refusal n) → FirstToHold (refusal n) (restoringOrder bytes)
+  unfolding restoreOf restoringOrder
+  restoring-refused-first n e = number-first n (restoringOrder bytes) refl (restored-number (first (restoringOrder bytes)) n (recordCount bytes) e)
 
   -- And wherever it is.
-  pub restoring-first-refused : (n : ℕ) → 0 < n → FirstToHold n (restoringOrder bytes) → restoreOf bytes ≡ Refused (refusal n)
+  pub restoring-first-refused : (n : ℕ) → 0 < n → FirstToHold (refusal n) (restoringOrder bytes) → restoreOf bytes ≡ Refused (refusal n)
   unfolding restoreOf
-  restoring-first-refused n l w = ap (λ (k : ℕ). restored k (recordCount bytes)) (first-holds n (restoringOrder bytes) w) ∙ go n l
+  restoring-first-refused n l w = ap (λ (k : ℕ). restored k (recordCount bytes)) (first-number n (restoringOrder bytes) w) ∙ go n l
     where
       go : (k : ℕ) → 0 < k → restored k (recordCount bytes) ≡ Refused (refusal k)
       go zero h = let z : ⊥ = omega arith in absurd z
       go (suc k) h = refl
+
+  -- A refusal of restoring points at no byte.
+  pub restoring-points-at-no-byte : (r : Refusal) → restoreOf bytes ≡ Refused r → r .offset ≡ 0
+  unfolding restoreOf
+  restoring-points-at-no-byte r e = restored-at-no-byte (first (restoringOrder bytes)) (recordCount bytes) r e
 
   -- the answer by the four conditions
   told : (n : ℕ) → restoreOf bytes ≡ Refused (refusal n) → four (badLength bytes) (unmarked bytes) (bad bytes) (twice bytes) ≡ n

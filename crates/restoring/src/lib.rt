@@ -48,7 +48,7 @@ pub fn restore(table: &mut [u64; WORDS], bytes: &[u8]) -> Restored
 {
     let number = faults::restoring_refusal(bytes);
     if number != 0 {
-        return Restored::Refused(Refusal { number });
+        return Restored::Refused(Refusal { number, offset: 0 });
     }
     place(table, bytes);
     Restored::Placed(bytes.len() / layout::RECORD)

@@ -86,6 +86,7 @@ pub fn save(table: &[u64; WORDS], out: &mut [u8]) -> Writing
     if lacks_room(table, out.len()) {
         return Writing::Refused(Refusal {
             number: Refusal::NO_ROOM,
+            offset: 0,
         });
     }
     Writing::Written(put_records(table, out))

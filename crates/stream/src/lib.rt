@@ -61,12 +61,14 @@ pub fn frame(message: &[u8], out: &mut [u8]) -> Writing
     if layout::LONGEST < message.len() {
         return Writing::Refused(Refusal {
             number: Refusal::TOO_LONG,
+            offset: 0,
         });
     }
     let total = layout::FRAME + message.len();
     if out.len() < total {
         return Writing::Refused(Refusal {
             number: Refusal::NO_ROOM,
+            offset: 0,
         });
     }
     let start = layout::FRAME;

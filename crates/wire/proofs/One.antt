@@ -21,6 +21,10 @@ two 𝓤 φ ψ = beside 𝓤 φ ψ (one 𝓤 φ) (one 𝓤 ψ)
 pub three : {M : Type 1} (𝓤 : URA M) (φ ψ χ : Type 0) → ent 𝓤 (sep 𝓤 (fact 𝓤 φ) (sep 𝓤 (fact 𝓤 ψ) (fact 𝓤 χ))) (fact 𝓤 (φ × (ψ × χ)))
 three 𝓤 φ ψ χ = beside 𝓤 φ (ψ × χ) (one 𝓤 φ) (two 𝓤 ψ χ)
 
-pub four : {M : Type 1} (𝓤 : URA M) (φ ψ χ ω : Type 0)
+four : {M : Type 1} (𝓤 : URA M) (φ ψ χ ω : Type 0)
     → ent 𝓤 (sep 𝓤 (fact 𝓤 φ) (sep 𝓤 (fact 𝓤 ψ) (sep 𝓤 (fact 𝓤 χ) (fact 𝓤 ω)))) (fact 𝓤 (φ × (ψ × (χ × ω))))
 four 𝓤 φ ψ χ ω = beside 𝓤 φ (ψ × (χ × ω)) (one 𝓤 φ) (three 𝓤 ψ χ ω)
+
+pub five : {M : Type 1} (𝓤 : URA M) (φ ψ χ ω υ : Type 0)
+    → ent 𝓤 (sep 𝓤 (fact 𝓤 φ) (sep 𝓤 (fact 𝓤 ψ) (sep 𝓤 (fact 𝓤 χ) (sep 𝓤 (fact 𝓤 ω) (fact 𝓤 υ))))) (fact 𝓤 (φ × (ψ × (χ × (ω × υ)))))
+five 𝓤 φ ψ χ ω υ = beside 𝓤 φ (ψ × (χ × (ω × υ))) (one 𝓤 φ) (four 𝓤 ψ χ ω υ)

@@ -57,16 +57,18 @@ fn judged(value: Message, room: usize) -> Writing
     if conditions::bad_encrypt(value.encrypt) {
         return Writing::Refused(Refusal {
             number: Refusal::ENCRYPT,
+            offset: 0,
         });
     }
-    let by_address = conditions::address_refusal(value);
-    if by_address != 0 {
-        return Writing::Refused(Refusal { number: by_address });
+    let number = conditions::address_refusal(value);
+    if number != 0 {
+        return Writing::Refused(Refusal { number, offset: 0 });
     }
     let total = message::head_length(value) + message::check_length(value);
     if room < total {
         return Writing::Refused(Refusal {
             number: Refusal::NO_ROOM,
+            offset: 0,
         });
     }
     Writing::Written(total)

@@ -11,7 +11,7 @@ use Rattle.lines.proofs.last.Tie as tie
 returns : tie.Need-returns
 returns c =
     let a = c .before .before .before .args in
-    let h : 64 ≤ length (a .out .now) = omega arith in
+    let h : 72 ≤ length (a .out .now) = omega arith in
     counted (a .out .now) (lastText (a .left)) (last-stored (a .out .now) (a .left) h (c .closing .ensures))
 
 pub last-spec : {M : Type 1} → statement M

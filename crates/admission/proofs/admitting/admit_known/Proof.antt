@@ -4,7 +4,7 @@ use lib.ListN.{length}
 use Rattle.writer.specs.Acknowledgement.{acknowledgementOf}
 use Rattle.window.specs.declared.Verdict.{Verdict}
 use Rattle.message.proofs.Logic.{so}
-use Rattle.admission.specs.Admission.{received}
+use Rattle.admission.specs.Admission.{withVerdict}
 use Rattle.admission.proofs.Orders.{unanswered, is-planned, settles}
 use Rattle.admission.proofs.Places.{rolls}
 use Rattle.table.proofs.Ids.{rolled-ids-put}
@@ -23,7 +23,7 @@ returns-2 c =
     let value = acknowledgementOf (a .own) (a .sender) (a .id) (a .m) in
     let p = is-planned value (length (a .out .now)) (a .sender) (a .m) (a .head) (a .table .now) _ (so (c .before .before .before .before .before .before .before .before .before .before .before .before .acknowledge .ensures .0) (c .before .before .before .before .before .before .before .before .answer2 .given .1)) in
     let r = rolls _ _ _ _ _ _ _ (pre .0) (pre .1) (c .before .before .before .before .before .row-under .ensures) (c .before .before .before .before .rolled .ensures) in
-    settles value (a .sender) (a .m) (a .head) (a .table .now) (a .out .now) _ p _ _ _ _ _ (r .0) (r .1) (pre .1) (sym (ap (λ (v : Verdict). received 0 v (a .m) (a .head) (c .before .before .before .before .before .before .before .before .answer2 .given .0 .0)) (c .before .before .enum-told .given .1)))
+    settles value (a .sender) (a .m) (a .head) (a .table .now) (a .out .now) _ p _ _ _ _ _ (r .0) (r .1) (pre .1) (sym (ap (λ (v : Verdict). withVerdict v (a .m) (a .head) (c .before .before .before .before .before .before .before .before .answer2 .given .0 .0)) (c .before .before .enum-told .given .1)))
     (c .put-ids .ensures ∙ rolled-ids-put _ _ _ _ _ _ _ (pre .0) (pre .1) (c .before .before .before .before .before .row-under .ensures) (c .before .before .before .before .rolled .ensures) ∙ put-within _ _ _ (pre .1)) (c .before .before .before .before .before .before .before .before .before .before .before .before .acknowledge .ensures .1)
 
 returns-3 : tie.Need-returns-3
@@ -33,7 +33,7 @@ returns-3 c =
     let value = acknowledgementOf (a .own) (a .sender) (a .id) (a .m) in
     let p = is-planned value (length (a .out .now)) (a .sender) (a .m) (a .head) (a .table .now) _ (so (c .before .before .before .before .before .before .before .before .before .before .acknowledge .ensures .0) (c .before .before .before .before .before .before .answer2 .given .1)) in
     let r = rolls _ _ _ _ _ _ _ (pre .0) (pre .1) (c .before .before .before .row-under .ensures) (c .before .before .rolled .ensures) in
-    settles value (a .sender) (a .m) (a .head) (a .table .now) (a .out .now) _ p _ _ _ _ _ (r .0) (r .1) (pre .1) (sym (ap (λ (v : Verdict). received 0 v (a .m) (a .head) (c .before .before .before .before .before .before .answer2 .given .0 .0)) (c .enum-told2 .given .1))) refl
+    settles value (a .sender) (a .m) (a .head) (a .table .now) (a .out .now) _ p _ _ _ _ _ (r .0) (r .1) (pre .1) (sym (ap (λ (v : Verdict). withVerdict v (a .m) (a .head) (c .before .before .before .before .before .before .answer2 .given .0 .0)) (c .enum-told2 .given .1))) refl
     (c .before .before .before .before .before .before .before .before .before .before .acknowledge .ensures .1)
 
 pub admit-known-spec : {M : Type 1} → statement M

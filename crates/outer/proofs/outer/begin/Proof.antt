@@ -1,6 +1,6 @@
 -- Each answer stands at the first condition that holds: lengths, header, fixed part, address fields. Assumes nothing.
 use Prim.Native.Nat.{ℕ}
-use mathlib.Core.Path.{_≡_, sym, ap, _∙_}
+use mathlib.Core.Path.{_≡_, sym, ap, ap₂, _∙_}
 use mathlib.Core.Bool.{false}
 use borrow.Author.Tests.{lt-ltb, le-ltb}
 use lib.Dec.{ltb}
@@ -8,9 +8,10 @@ use lib.ListN.{length}
 use Rattle.wire.specs.Bytes.{little}
 use Rattle.wire.proofs.Places.{place-get}
 use Rattle.message.specs.Order.{first}
-use Rattle.message.specs.Value.{header, addressOf}
+use Rattle.message.specs.Answers.{refusal}
+use Rattle.message.specs.Value.{bit, header, addressOf}
 use Rattle.message.specs.Refusals.{tooLong, addressOrder}
-use Rattle.outer.specs.Steps.{headerOrder, fixedAt}
+use Rattle.outer.specs.Steps.{headerOrder, fixedAt, fieldAt}
 use Rattle.outer.specs.declared.outer.Begun.the-variants.{Address, Refused}
 use Rattle.outer.proofs.Begun.{begun-long, begun-short, begun-header, begun-fixed, begun-address, begun-whole}
 use borrow.Author.Needs.{needs}
@@ -47,30 +48,38 @@ by-address : (c : tie.After-address-refusal)
 by-address c = c .address-refusal .ensures ∙ ap (λ m. first (addressOrder m)) (value (c .before))
 
 returns : tie.Need-returns
-returns c = sym (begun-long _ (lt-ltb _ _ (c .if1 .taken)))
+returns c = c .refused .ensures ∙ sym (begun-long _ (lt-ltb _ _ (c .before .if1 .taken)))
 
 returns-2 : tie.Need-returns-2
-returns-2 c = sym (begun-short _ (long (c .before)) (lt-ltb _ _ (c .if2 .taken)))
+returns-2 c = c .refused2 .ensures ∙ sym (begun-short _ (long (c .before .before)) (lt-ltb _ _ (c .before .if2 .taken)))
 
 returns-3 : tie.Need-returns-3
 returns-3 c =
-    let r = by-header (c .before) in
-    let b = c .before .before .before .before in
-    ap Refused r ∙ sym (begun-header _ (long (b .before)) (short b) (λ e. c .if3 .taken (r ∙ e)))
+    let t = c .before in
+    let r = by-header (t .before) in
+    let b = t .before .before .before .before in
+    c .refused3 .ensures
+    ∙ ap (λ (n : ℕ). Refused (refusal n)) r
+    ∙ sym (begun-header _ (long (b .before)) (short b) (λ e. t .if3 .taken (r ∙ e)))
 
 returns-4 : tie.Need-returns-4
 returns-4 c =
-    let p = c .before .before in
+    let t = c .before in
+    let p = t .before .before in
     let b = p .before .before .before .before in
-    sym (begun-fixed _ (long (b .before)) (short b) (passed p) (rw (fixed (c .before)) at (lt-ltb _ _ (c .if4 .taken))))
+    c .refused4 .ensures
+    ∙ sym (begun-fixed _ (long (b .before)) (short b) (passed p) (rw (fixed (t .before)) at (lt-ltb _ _ (t .if4 .taken))))
 
 returns-5 : tie.Need-returns-5
 returns-5 c =
-    let r = by-address (c .before) in
-    let f = c .before .before .before in
+    let t = c .before .before in
+    let r = by-address (t .before) in
+    let f = t .before .before .before in
     let p = f .before .before in
     let b = p .before .before .before .before in
-    ap Refused r ∙ sym (begun-address _ (long (b .before)) (short b) (passed p) (there f) (λ e. c .if5 .taken (r ∙ e)))
+    c .refused5 .ensures
+    ∙ ap₂ (λ (n k : ℕ). Refused (record { number = n; offset = k })) r (c .before .field-at .ensures ∙ ap₂ (λ (n h : ℕ). fieldAt n (bit h 9) (bit h 8)) r (head (p .before .before)))
+    ∙ sym (begun-address _ (long (b .before)) (short b) (passed p) (there f) (λ e. t .if5 .taken (r ∙ e)))
 
 returns-6 : tie.Need-returns-6
 returns-6 c =
@@ -83,7 +92,9 @@ pub begin-spec : {M : Type 1} → statement M
 begin-spec =
     tie.close
     (tie.spec
+    (λ c κs. search needs)
     returns
+    (λ c κs. search needs)
     returns-2
     (λ c. search needs)
     (λ c. search needs)
@@ -91,9 +102,13 @@ begin-spec =
     (λ c. search needs)
     (λ c κs. search needs)
     (λ c κs. search needs)
+    (λ c κs. search needs)
     returns-3
     (λ c κs. search needs)
+    (λ c κs. search needs)
     returns-4
+    (λ c κs. search needs)
+    (λ c κs. search needs)
     (λ c κs. search needs)
     (λ c κs. search needs)
     returns-5

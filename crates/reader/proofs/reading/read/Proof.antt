@@ -21,7 +21,7 @@ returns-2 : tie.Need-returns-2
 returns-2 c = c .read-exchange .ensures ∙ sym (read-general _ _ (so (c .before .before .before .before .before .begin .ensures) (c .before .before .before .begun .given .1)) (c .before .if1 .left))
 
 returns-3 : tie.Need-returns-3
-returns-3 c = c .refused .ensures ∙ sym (read-refused _ _ (so (c .before .before .before .before .begin .ensures) (c .before .before .begun2 .given .1)))
+returns-3 c = sym (read-refused _ _ (so (c .before .before .before .begin .ensures) (c .before .begun2 .given .1)))
 
 pub read-spec : {M : Type 1} → statement M
 read-spec =
@@ -33,6 +33,5 @@ read-spec =
     returns
     read-exchange-requires
     (λ c. search needs)
-    (λ c κs. search needs)
     returns-2
     returns-3)

@@ -7,6 +7,7 @@ use Rattle.wire.specs.Bytes.{part, little}
 use Rattle.wire.proofs.Places.{place-get}
 use Rattle.message.proofs.Logic.{so}
 use Rattle.message.specs.Layout.{bodyOf}
+use Rattle.message.specs.declared.answers.Reading.the-variants.{Refused}
 use Rattle.reader.proofs.Steps.{exchange-header, exchange-asks, exchange-fields}
 use borrow.Author.Needs.{needs}
 use Rattle.reader.proofs.reading.read_exchange.Statement.{statement}
@@ -26,7 +27,9 @@ returns : tie.Need-returns
 returns c =
     let b = c .before .before in
     let v = b .before .before .before .before .before .args in
-    c .refused .ensures ∙ sym (exchange-header (v .bytes .now) (v .m) _ (header (b .before)) (so (b .bad-exchange .ensures) (c .before .if1 .taken)))
+    c .refused .ensures
+    ∙ ap (λ (i : ℕ). Refused (record { number = 10; offset = i })) (b .before .before .before .body-of .ensures .0)
+    ∙ sym (exchange-header (v .bytes .now) (v .m) _ (header (b .before)) (so (b .bad-exchange .ensures) (c .before .if1 .taken)))
 
 returns-2 : tie.Need-returns-2
 returns-2 c =
@@ -34,6 +37,7 @@ returns-2 c =
     let b = o .before .before in
     let v = b .before .before .before .before .before .args in
     c .refused2 .ensures
+    ∙ ap (λ (i : ℕ). Refused (record { number = 11; offset = i })) (b .before .before .before .body-of .ensures .0)
     ∙ sym (exchange-asks (v .bytes .now) (v .m) _ (header (b .before)) (so (b .bad-exchange .ensures) (o .before .if1 .left)) (so (o .old-asks .ensures) (c .before .if2 .taken)))
 
 read-fields-requires : tie.Need-read-fields-requires

@@ -40,6 +40,7 @@ read-tunnel-spec =
     (λ c. search needs)
     (λ c. search needs)
     (λ c κs. search needs)
+    (λ c. search needs)
     (λ c κs. search needs)
     returns-2
     (λ c. search needs)
