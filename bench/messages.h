@@ -1,8 +1,8 @@
-/* The messages of the scenes. Their ids are put in before each receive, so each has room for one. */
+/* The messages of the scenes. Ids and nodes are put in before a receive, so each has room for both. */
 static uint8_t X[30] = { 0x00, 0x23, 5, 0, 0, 0, 2, 0, 0, 0, 0, 0, 0, 0x0e, 2, 0, 0, 0, 0, 0, 0, 1, 0x15, 2, 2, 1, 0, 0, 0, 0 };
 
 /* Refused for its first two bytes, which are all that is handed over. */
-static uint8_t refused[6] = { 0x00, 0x14 };
+static uint8_t refused[14] = { 0x00, 0x14 };
 
 /* Tunnelled, both nodes, an IPv6 packet of 60 bytes. */
 static uint8_t tunnel[23 + 60] = { 0x00, 0x27, 5, 0, 0, 0, 2, 0, 0, 0, 0, 0, 0, 0x0e, 2, 0, 0, 0, 0, 0, 0, 1, 1, 0x60, 0, 0, 0, 0, 20 };

@@ -26,8 +26,6 @@ static const struct scene {
 	{ secret, sizeof secret, 1, MARKED, 0 },
 };
 
-static inline uint32_t folded(struct gw_answer a) { return a.refusal * 65536 + a.duplicate * 256 + a.reply_length + (uint32_t)a.offset; }
-
 /* N receives, and the sum of their answers. */
 static __attribute__((noinline)) uint32_t bench_run(unsigned long n, uint8_t *message, size_t length, uint32_t id, uint32_t step)
 {

@@ -12,6 +12,9 @@ static inline struct gw_answer receive(const uint8_t *message, size_t length)
 	return gw_receive(table, OWN, 0, 9, true, message, length, out, sizeof out);
 }
 
+/* An answer as one number. */
+static inline uint32_t folded(struct gw_answer a) { return a.refusal * 65536 + a.duplicate * 256 + a.reply_length + (uint32_t)a.offset; }
+
 static inline void put_id(uint8_t *message, uint32_t id)
 {
 	for (int i = 0; i < 4; i++)

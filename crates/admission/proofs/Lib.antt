@@ -1,4 +1,4 @@
 -- The laws that belong to no one function.
+pub mod Answered
 pub mod Orders
 pub mod Places
-pub mod Planned

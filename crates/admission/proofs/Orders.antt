@@ -26,9 +26,10 @@ use Rattle.window.specs.declared.Verdict.the-variants.{New, Duplicate}
 use Rattle.admission.specs.declared.answers.Received.{Received}
 use Rattle.admission.specs.declared.answers.Received.the-variants as Received
 use Rattle.table.specs.Table.{rows}
-use Rattle.writer.specs.Acknowledgement.{acknowledgementBytes, acknowledging, blankCheck}
-use Rattle.admission.specs.Acknowledgement.{unwritable, lacksRoom, reasoned, plannedOf, answeredBy}
-use Rattle.admission.proofs.Planned.{differ, unwritten}
+use Rattle.reply.specs.Acknowledgement.{acknowledgementBytes, acknowledging, blankCheck}
+use Rattle.reply.specs.Planning.{unwritable, lacksRoom, reasoned, plannedOf}
+use Rattle.admission.specs.Acknowledgement.{answeredBy}
+use Rattle.admission.proofs.Answered.{differ, unwritten}
 use Rattle.admission.specs.Admission.{admitOf, fullOf, rowFor, rolledIn, noRow, admissionOrder, verdictIn, withVerdict, received, answerOf, tableAfter, tableBy, bufferWith, bufferBy}
 
 -- ---- a refusal

@@ -1,38 +1,12 @@
--- Whether the acknowledgement that a message wants can be written, and why not: 22 and 19 ("Acknowledgement"). Assumes nothing.
+-- The buffer after the acknowledgement that a message may want ("Acknowledgement"). Assumes nothing.
 use Prim.Native.Nat.{ℕ}
-use mathlib.Core.Bool.{Bool, false, not, cond}
+use mathlib.Core.Bool.{Bool, cond}
 use mathlib.Core.List.{List}
-use lib.Dec.{eqb}
 use lib.ListN.{length}
-use Rattle.message.specs.Answers.{refusal, bufferAfter}
+use Rattle.message.specs.Answers.{bufferAfter}
 use Rattle.message.specs.declared.value.Message.{Message}
-use Rattle.message.specs.declared.answers.Writing.{Writing}
-use Rattle.message.specs.declared.answers.Writing.the-variants.{Written, Refused}
-use Rattle.writer.specs.Acknowledgement.{acknowledgementBytes, acknowledging}
+use Rattle.reply.specs.Acknowledgement.{acknowledgementBytes, acknowledging}
 
--- 22: it cannot be written, for a reason other than 19
-abbrev pub unwritable : Writing → Bool
-unwritable (Written n) = false
-unwritable (Refused r) = not (eqb (r .number) 19)
-
--- 19: it cannot be written for want of room
-abbrev pub lacksRoom : Writing → Bool
-lacksRoom (Written n) = false
-lacksRoom (Refused r) = eqb (r .number) 19
-
--- why it is not written
-abbrev pub reasonOf : ℕ → ℕ
-reasonOf number = cond (eqb number 19) 19 22
-
--- the same answer with the two reasons apart
-abbrev pub reasoned : Writing → Writing
-reasoned (Written n) = Written n
-reasoned (Refused r) = Refused (refusal (reasonOf (r .number)))
-
--- what a message is answered with, by whether it wants an acknowledgement: 0 bytes where it does not
-unfoldable pub plannedOf : Bool → Message → ℕ → Writing
-plannedOf wanted value room = cond wanted (reasoned (acknowledging value room)) (Written 0)
-
--- the buffer after that
+-- as it was where none is wanted, or none can be written
 unfoldable pub answeredBy : Bool → Message → List ℕ → List ℕ
 answeredBy wanted value old = cond wanted (bufferAfter (acknowledging value (length old)) (acknowledgementBytes value) old) old

@@ -20,8 +20,8 @@ use Rattle.message.specs.declared.answers.Head.{Head}
 use Rattle.message.specs.declared.answers.Writing.{Writing}
 use Rattle.message.specs.declared.answers.Writing.the-variants.{Written, Refused}
 use Rattle.table.specs.Table.{rows, rowOf, withRow, findOf, freeOf}
-use Rattle.writer.specs.Acknowledgement.{acknowledgementBytes, acknowledging}
-use Rattle.admission.specs.Acknowledgement.{unwritable, lacksRoom}
+use Rattle.reply.specs.Acknowledgement.{acknowledgementBytes, acknowledging}
+use Rattle.reply.specs.Planning.{unwritable, lacksRoom}
 use Rattle.admission.specs.declared.answers.Received.{Received}
 use Rattle.admission.specs.declared.answers.Received.the-variants as Received
 

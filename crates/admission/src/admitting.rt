@@ -3,7 +3,7 @@
 ghost use mathlib.Core.Path.{_≡_};
 ghost use Prim.Native.Nat.{_<_, _≤_};
 ghost use lib.ListN.{length};
-ghost use Rattle.writer.specs.Acknowledgement.{acknowledgementOf};
+ghost use Rattle.reply.specs.Acknowledgement.{acknowledgementOf};
 ghost use Rattle.table.specs.Table.{rows, findOf};
 ghost use Rattle.admission.specs.Admission.{admitOf, fullOf, tableBy, bufferBy};
 use crate::acknowledgement;
@@ -83,7 +83,7 @@ fn admit_first(
 {
     let place = search::find_free(table);
     if ROWS <= place {
-        return full(acknowledgement::plan(own, sender, id, m, out.len()));
+        return full(reply::plan(own, sender, id, m, out.len()));
     }
     let answer = acknowledgement::acknowledge(own, sender, id, m, out);
     match answer {

@@ -28,9 +28,9 @@ use Rattle.parts.proofs.payload as payload
 use Rattle.parts.proofs.check as check
 use Rattle.judge.proofs.would_write as would
 use Rattle.writer.proofs.write as write
-use Rattle.writer.proofs.would_acknowledge as would-acknowledge
+use Rattle.reply.proofs.would_acknowledge as would-acknowledge
 use Rattle.writer.proofs.acknowledge as acknowledge
-use Rattle.writer.specs.Acknowledgement.{acknowledgementOf, acknowledgementBytes}
+use Rattle.reply.specs.Acknowledgement.{acknowledgementOf, acknowledgementBytes}
 use Rattle.stream.proofs.unframe as unframe
 use Rattle.stream.proofs.framed_message as message
 use Rattle.stream.proofs.framed_rest as rest

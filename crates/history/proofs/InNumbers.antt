@@ -26,7 +26,7 @@ use Rattle.table.proofs.Found.{none-there-none-found}
 use Rattle.table.proofs.Kept.{kept-one}
 use Rattle.table.proofs.Least.{least-is}
 use Rattle.table.proofs.Words.{same-row, other-row, empty-row}
-use Rattle.writer.specs.Acknowledgement.{acknowledgementOf, acknowledging}
+use Rattle.reply.specs.Acknowledgement.{acknowledgementOf, acknowledging}
 use Rattle.admission.specs.Admission.{rowFor, rolledIn, admissionOrder, answerOf, tableAfter, tableBy}
 use Rattle.admission.specs.declared.answers.Received.{Received}
 use Rattle.admission.specs.declared.answers.Received.the-variants as Received

@@ -1,6 +1,6 @@
 -- Reading after outer reading: what its answer is, and which bytes are there. Assumes nothing.
 use Prim.Native.Nat.{ℕ, _+_, _≤_}
-use mathlib.Core.Path.{_≡_, sym, ap, ap₂, subst, _∙_}
+use mathlib.Core.Path.{_≡_, refl, sym, ap, ap₂, subst, _∙_}
 use mathlib.Core.Bool.{Bool, true, false, not, cond}
 use mathlib.Core.List.{List}
 use native.Mathlib.Omega.{arith}
@@ -8,7 +8,7 @@ use lib.ListN.{length}
 use Rattle.wire.specs.Bytes.{part, little}
 use Rattle.message.specs.Order.{firstRefusal}
 use Rattle.message.specs.Layout.{only, bodyOf, checkLength}
-use Rattle.message.specs.Value.{bit, header, bodyBy, exchangeHeader, addressOf, exchangedBy, messageOf, flagsOf}
+use Rattle.message.specs.Value.{bit, header, bodyBy, exchangeHeader, addressOf, exchangedBy, messageOf}
 use Rattle.message.specs.Answers.{asTaken, reading}
 use Rattle.message.specs.declared.value.Message.{Message}
 use Rattle.message.specs.declared.answers.Refusal.{Refusal}
@@ -20,7 +20,7 @@ use Rattle.outer.specs.declared.outer.Begun.the-variants.{Address, Refused}
 use Rattle.outer.proofs.Begun.{refused-first, outer-numbered, outer-fixed}
 use Rattle.outer.proofs.Answers.{outer-none, outer-given, outer-body}
 use Rattle.reader.specs.Reading.{exchangeOrder, tunnelOrder, bodyOrder, readingOrder, readOf}
-use Rattle.reader.specs.Steps.{exchanged, exchangeOf, tunnelOf}
+use Rattle.reader.specs.Steps.{exchanged, noExchange, withFields, exchangeOf, tunnelOf}
 use Rattle.reader.proofs.Steps.{address-tunnelled, address-exchanged}
 
 pub reading-hit : (r : Refusal) (m : Message) → (r .number ≡ 0 → ⊥) → reading r m ≡ Reading.Refused r
@@ -55,9 +55,9 @@ module _ (bytes : List ℕ) (m : Message) (e : begunOf bytes ≡ Address m) wher
   check-is : checkLength m ≡ checkLength (addressOf bytes (header bytes))
   check-is = ap checkLength (sym given)
 
-  pub no-flags : flagsOf m ≡ 0
-  unfolding addressOf
-  no-flags = ap flagsOf (sym given)
+  pub no-fields : withFields m (noExchange 0) ≡ m
+  unfolding addressOf withFields
+  no-fields = subst (λ (v : Message). withFields v (noExchange 0) ≡ v) given refl
 
   pub tunnel-room : m .tunnelled ≡ true → bodyOf m + 2 ≤ length bytes
   tunnel-room t =

@@ -1,12 +1,11 @@
 -- The steps in which the code reads are the order of reading and the value of the definitions. Assumes nothing.
-use Prim.Native.Nat.{ℕ, _+_, _%_, _≤_, _<_}
+use Prim.Native.Nat.{ℕ, _+_, _≤_, _<_}
 use mathlib.Core.Path.{_≡_, refl, sym, ap, ap₂, _∙_}
 use mathlib.Core.Bool.{Bool, true, false, _&&_}
 use mathlib.Core.List.{List, [], _∷_}
-use native.Mathlib.Nat.{div-one}
 use native.Mathlib.Omega.{arith}
 use borrow.Author.Tests.{lt-ltb, le-ltb}
-use lib.Dec.{eqb, ltb}
+use lib.Dec.{ltb}
 use lib.ListN.{length, getD}
 use Rattle.wire.specs.Bytes.{part, little}
 use Rattle.message.specs.Order.{_when_, _at-byte_, firstRefusal}
@@ -17,7 +16,7 @@ use Rattle.message.specs.Answers.{asTaken, reading}
 use Rattle.message.specs.declared.value.Message.{Message}
 use Rattle.message.specs.declared.answers.Reading.the-variants.{Refused}
 use Rattle.reader.specs.Reading.{exchangeOrder, tunnelOrder}
-use Rattle.reader.specs.Steps.{exchanged, fieldsOf, exchangeOf, tunnelOf}
+use Rattle.reader.specs.Steps.{exchanged, exchangeAt, fieldsOf, exchangeOf, tunnelOf}
 
 -- the value of a tunnelled message is that up to its key id
 pub address-tunnelled : (bytes : List ℕ) → bit (header bytes) 10 ≡ true → addressOf bytes (header bytes) ≡ messageOf bytes
@@ -31,12 +30,11 @@ unfolding addressOf messageOf exchangedBy
 address-exchanged bytes t = simp t
 
 -- those fields, each as the code gets it
-pub exchanged-fields : (m : Message) (bytes : List ℕ) (at x kind exchange profile acknowledged : ℕ) → x ≡ little (part bytes at 1)
+pub exchange-at : (bytes : List ℕ) (at x kind exchange profile acknowledged n : ℕ) → x ≡ little (part bytes at 1)
     → kind ≡ little (part bytes (at + 1) 1) → exchange ≡ little (part bytes (at + 2) 2) → profile ≡ little (part bytes (at + 4) 4)
     → acknowledged ≡ little (part bytes (at + 8) (only (bit x 1) 4))
-    → record { version = m .version; tunnelled = m .tunnelled; sourced = m .sourced; destined = m .destined; encrypt = m .encrypt; id = m .id; source = m .source; destination = m .destination; key = m .key; initiator = eqb (x % 2) 1; acknowledges = bit x 1; wants = bit x 2; kind = kind; exchange = exchange; profile = profile; acknowledged = acknowledged } ≡ exchanged m bytes at
-unfolding exchangedBy
-exchanged-fields m bytes at x kind exchange profile acknowledged a b c d e = simp (e, ← a, b, c, d, div-one)
+    → record { header = x; kind = kind; exchange = exchange; profile = profile; acknowledged = acknowledged; length = n } ≡ exchangeAt bytes at n
+exchange-at bytes at x kind exchange profile acknowledged n a b c d e = simp (e, ← a, b, c, d)
 
 -- a tunnelled message, whose version stands at `at`: the version is refused, the packet is, neither is
 module _ (bytes : List ℕ) (m : Message) (at : ℕ) (e : at ≡ bodyOf m) where

@@ -19,8 +19,8 @@ use Rattle.outer.specs.Outer.{outerOrder}
 use Rattle.reader.specs.Reading.{exchangeOrder, tunnelOrder, bodyOrder, readingOrder}
 use Rattle.reader.proofs.Clear.{Clear, none-left, none-right, all-clear}
 use Rattle.judge.proofs.Clear.{written}
-use Rattle.writer.specs.Acknowledgement.{blankCheck, acknowledging}
-use Rattle.admission.specs.Acknowledgement.{unwritable, lacksRoom}
+use Rattle.reply.specs.Acknowledgement.{blankCheck, acknowledging}
+use Rattle.reply.specs.Planning.{unwritable, lacksRoom}
 use Rattle.admission.specs.Admission.{admissionOrder}
 use Rattle.reception.specs.Receiving.{Beside, senderOf, answerTo, deliveryOrder, afterReading, receivingOrder}
 use Rattle.reception.proofs.Orders.{link-is-sender}

@@ -18,7 +18,7 @@ use Rattle.message.specs.declared.answers.Reading.the-variants as Reading
 use Rattle.message.proofs.Order.{numberOf, numbered, atZero, first-at-zero, first-miss, first-pass, first-hit}
 use Rattle.reader.specs.Reading.{readingOrder, readOf}
 use Rattle.reader.proofs.Clear.{taken, taken-legal, head-taken}
-use Rattle.writer.specs.Acknowledgement.{acknowledgementOf}
+use Rattle.reply.specs.Acknowledgement.{acknowledgementOf}
 use Rattle.admission.specs.Admission.{noRow, admissionOrder, verdictIn, answerOf, tableBy, bufferBy}
 use Rattle.admission.specs.declared.answers.Received.{Received}
 use Rattle.admission.specs.declared.answers.Received.the-variants as Received

@@ -20,7 +20,7 @@ use Rattle.message.proofs.Lengths.{length-bytes}
 use Rattle.reader.specs.Reading.{readOf}
 use Rattle.format.proofs.Sized.{Sized, sized-of}
 use Rattle.format.proofs.WriteRead.{SameRead, write-read}
-use Rattle.writer.specs.Acknowledgement.{acknowledgementOf, blankCheck, acknowledgementBytes, acknowledging}
+use Rattle.reply.specs.Acknowledgement.{acknowledgementOf, blankCheck, acknowledgementBytes, acknowledging}
 use Rattle.writer.proofs.Bare.{length-zeros}
 use Rattle.admission.specs.Admission.{bufferWith, bufferBy}
 use Rattle.admission.specs.declared.answers.Received.{Received}

@@ -19,10 +19,10 @@ use Rattle.message.proofs.Order.{first-miss, first-hit, none-first}
 use Rattle.outer.specs.Outer.{outerOrder}
 use Rattle.reader.specs.Reading.{exchangeOrder, tunnelOrder, bodyOrder, readingOrder, readOf}
 use Rattle.reader.proofs.Clear.{none-taken, taken, taken-legal}
-use Rattle.writer.specs.Steps.{acknowledgingOrder}
-use Rattle.writer.specs.Acknowledgement.{acknowledgementOf, acknowledging}
-use Rattle.writer.proofs.Bare.{judged-is}
-use Rattle.admission.specs.Acknowledgement.{unwritable, lacksRoom}
+use Rattle.reply.specs.Steps.{acknowledgingOrder}
+use Rattle.reply.specs.Acknowledgement.{acknowledgementOf, acknowledging}
+use Rattle.reply.proofs.Steps.{judged-is}
+use Rattle.reply.specs.Planning.{unwritable, lacksRoom}
 use Rattle.admission.specs.Admission.{admissionOrder}
 use Rattle.reception.specs.Receiving.{Beside, senderOf, answerTo, deliveryOrder, afterReading, receivingOrder}
 use Rattle.reception.proofs.Orders.{link-is-sender}

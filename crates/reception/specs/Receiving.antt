@@ -11,7 +11,7 @@ use Rattle.message.specs.Answers.{headOf}
 use Rattle.reader.specs.Reading.{readingOrder}
 use Rattle.message.specs.declared.value.Message.{Message}
 use Rattle.message.specs.declared.answers.Head.{Head}
-use Rattle.writer.specs.Acknowledgement.{acknowledgementOf}
+use Rattle.reply.specs.Acknowledgement.{acknowledgementOf}
 use Rattle.admission.specs.Admission.{noRow, verdictIn, admissionOrder, answerOf, tableBy, bufferBy}
 use Rattle.admission.specs.declared.answers.Received.{Received}
 

@@ -1,9 +1,9 @@
-// Writing a message: the bytes of a value at the front of a buffer. The standalone acknowledgement is
-// written in the same way.
+// Writing a message: the bytes of a value at the front of a buffer. The standalone acknowledgement, whose
+// value and judgement are those of `reply`, is written in the same way.
 mod acknowledging;
 mod stores;
 mod writing;
 
 pub use acknowledging::acknowledge;
-pub use acknowledging::would_acknowledge;
+pub use reply::would_acknowledge;
 pub use writing::write;

@@ -13,7 +13,7 @@ use message::Writing;
 use message::layout;
 
 // A number where a flag is set, else 0.
-pub(crate) fn only16(on: bool, n: u16) -> u16
+fn only16(on: bool, n: u16) -> u16
     ensures { λ r. ⌜ (r ≡ only on n) × (r ≤ n) ⌝ }
 {
     if on { n } else { 0 }

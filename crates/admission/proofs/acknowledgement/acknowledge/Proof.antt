@@ -1,7 +1,8 @@
 -- What the writer answers, with its reason, and what it leaves in the buffer, where it is asked. Assumes nothing.
 use mathlib.Core.Path.{_∙_}
 use borrow.Author.Tests.{not-true, not-false}
-use Rattle.admission.proofs.Planned.{planned, unplanned, stored, unstored}
+use Rattle.reply.proofs.Planned.{planned, unplanned}
+use Rattle.admission.proofs.Answered.{stored, unstored}
 use borrow.Author.Needs.{needs}
 use Rattle.admission.proofs.acknowledgement.acknowledge.Statement.{statement}
 use Rattle.admission.proofs.acknowledgement.acknowledge.Tie as tie

@@ -2,7 +2,7 @@
 use Prim.Native.Nat.{ℕ, _≤_}
 use mathlib.Core.Path.{refl, sym, subst, _∙_}
 use lib.ListN.{length}
-use Rattle.writer.specs.Acknowledgement.{acknowledgementOf}
+use Rattle.reply.specs.Acknowledgement.{acknowledgementOf}
 use Rattle.message.proofs.Logic.{so}
 use Rattle.table.specs.Table.{rows}
 use Rattle.admission.proofs.Orders.{unanswered, no-row, is-planned, settles}

@@ -1,7 +1,7 @@
 -- A refused acknowledgement is the answer; else it stands in the buffer, and the row found is rolled: by the verdict it is put, or not. Assumes nothing.
 use mathlib.Core.Path.{refl, sym, ap, _∙_}
 use lib.ListN.{length}
-use Rattle.writer.specs.Acknowledgement.{acknowledgementOf}
+use Rattle.reply.specs.Acknowledgement.{acknowledgementOf}
 use Rattle.window.specs.declared.Verdict.{Verdict}
 use Rattle.message.proofs.Logic.{so}
 use Rattle.admission.specs.Admission.{withVerdict}

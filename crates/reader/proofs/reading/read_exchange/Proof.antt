@@ -8,6 +8,7 @@ use Rattle.wire.proofs.Places.{place-get}
 use Rattle.message.proofs.Logic.{so}
 use Rattle.message.specs.Layout.{bodyOf}
 use Rattle.message.specs.declared.answers.Reading.the-variants.{Refused}
+use Rattle.reader.specs.Steps.{finished}
 use Rattle.reader.proofs.Steps.{exchange-header, exchange-asks, exchange-fields}
 use borrow.Author.Needs.{needs}
 use Rattle.reader.proofs.reading.read_exchange.Statement.{statement}
@@ -27,7 +28,7 @@ returns : tie.Need-returns
 returns c =
     let b = c .before .before in
     let v = b .before .before .before .before .before .args in
-    c .refused .ensures
+    ap (finished (v .m)) (c .refused .ensures)
     ∙ ap (λ (i : ℕ). Refused (record { number = 10; offset = i })) (b .before .before .before .body-of .ensures .0)
     ∙ sym (exchange-header (v .bytes .now) (v .m) _ (header (b .before)) (so (b .bad-exchange .ensures) (c .before .if1 .taken)))
 
@@ -36,7 +37,7 @@ returns-2 c =
     let o = c .before .before in
     let b = o .before .before in
     let v = b .before .before .before .before .before .args in
-    c .refused2 .ensures
+    ap (finished (v .m)) (c .refused2 .ensures)
     ∙ ap (λ (i : ℕ). Refused (record { number = 11; offset = i })) (b .before .before .before .body-of .ensures .0)
     ∙ sym (exchange-asks (v .bytes .now) (v .m) _ (header (b .before)) (so (b .bad-exchange .ensures) (o .before .if1 .left)) (so (o .old-asks .ensures) (c .before .if2 .taken)))
 

@@ -3,8 +3,8 @@ use mathlib.Core.Path.{sym, ap, _∙_}
 use mathlib.Core.Bool.{not}
 use borrow.Author.Tests.{eq-eqb, ne-eqb}
 use Rattle.message.proofs.Logic.{so}
-use Rattle.message.specs.declared.answers.Reading.the-variants.{Taken}
-use Rattle.reader.proofs.Flags.{tunnel-head}
+use Rattle.reader.specs.Steps.{finished}
+use Rattle.reader.proofs.Flags.{tunnel-taken}
 use Rattle.reader.proofs.Steps.{tunnel-version, tunnel-packet, tunnel-whole}
 use borrow.Author.Needs.{needs}
 use Rattle.reader.proofs.reading.read_tunnel.Statement.{statement}
@@ -13,13 +13,13 @@ use Rattle.reader.proofs.reading.read_tunnel.Tie as tie
 returns : tie.Need-returns
 returns c =
     let v = c .before .before .before .before .before .args in
-    c .refused .ensures
+    ap (finished (v .m)) (c .refused .ensures)
     ∙ sym (tunnel-version (v .bytes .now) (v .m) _ (c .before .before .before .body-of .ensures .0) (ap not (ne-eqb _ _ (c .before .if1 .taken))))
 
 returns-2 : tie.Need-returns-2
 returns-2 c =
     let v = c .before .before .before .before .before .before .before .before .args in
-    c .refused2 .ensures
+    ap (finished (v .m)) (c .refused2 .ensures)
     ∙ sym (tunnel-packet (v .bytes .now) (v .m) _ (c .before .before .before .before .before .before .body-of .ensures .0) (ap not (eq-eqb _ _ (c .before .before .before .before .if1 .left))) (so (c .before .before .bad-packet .ensures) (c .before .if2 .taken)))
 
 returns-3 : tie.Need-returns-3
@@ -27,7 +27,7 @@ returns-3 c =
     let v = c .before .before .before .before .before .before .before .args in
     let p = c .before .before .before .before .before .before .before .pre in
     let b = c .before .before .before .before .before .body-of .ensures .0 in
-    sym (tunnel-whole (v .bytes .now) (v .m) _ b (ap not (eq-eqb _ _ (c .before .before .before .if1 .left))) (so (c .before .bad-packet .ensures) (c .if2 .left)) ∙ ap (Taken (v .m)) (tunnel-head (v .m) _ (p .0) (p .1) b))
+    tunnel-taken (v .m) _ (p .0) (p .1) b ∙ sym (tunnel-whole (v .bytes .now) (v .m) _ b (ap not (eq-eqb _ _ (c .before .before .before .if1 .left))) (so (c .before .bad-packet .ensures) (c .if2 .left)))
 
 pub read-tunnel-spec : {M : Type 1} → statement M
 read-tunnel-spec =

@@ -10,8 +10,9 @@ use Rattle.message.specs.declared.value.Message.{Message}
 use Rattle.message.proofs.Lengths.{length-head}
 use Rattle.message.proofs.Logic.{so}
 use Rattle.wire.proofs.Runs.{fronted, onward}
-use Rattle.writer.specs.Acknowledgement.{zeros}
-use Rattle.writer.proofs.Bare.{length-zeros, judged-is, bare-storable, lands}
+use Rattle.reply.specs.Acknowledgement.{zeros}
+use Rattle.reply.proofs.Steps.{judged-is}
+use Rattle.writer.proofs.Bare.{length-zeros, bare-storable, lands}
 use borrow.Author.Needs.{needs}
 use Rattle.writer.proofs.acknowledging.acknowledge.Statement.{statement}
 use Rattle.writer.proofs.acknowledging.acknowledge.Tie as tie

@@ -1,0 +1,4 @@
+-- The laws that belong to no one function.
+pub mod Steps
+pub mod Planned
+pub mod Outcomes

@@ -1,3 +1,0 @@
--- What the contracts of `writer` cite.
-pub mod Steps
-pub mod Acknowledgement
