@@ -8,6 +8,8 @@ enum {
 	ACK_HEADER = 2 << 12 | WV_SOURCE | WV_DESTINATION,
 	ACK_TYPE = 2,
 	NODES_AT = 6, /* where the source stands, or the destination if there is no source */
+	IPV4_HEADER_LEN = 20, /* at least */
+	IPV6_HEADER_LEN = 40,
 	RECORD_MARK = 0x5752,
 };
 
@@ -15,10 +17,11 @@ static const uint64_t ANY_NODE = UINT64_MAX;
 
 #define always_inline inline __attribute__((always_inline))
 
-/* Unaligned loads and stores; the wire is low byte first, but for node ids. */
+/* Unaligned loads and stores; the wire is low byte first, but for node ids and within a packet. */
 _Static_assert(__BYTE_ORDER__ == __ORDER_LITTLE_ENDIAN__, "get and put want a little-endian machine");
 
 static always_inline uint16_t get16(const uint8_t *p) { uint16_t x; __builtin_memcpy(&x, p, 2); return x; }
+static always_inline uint16_t get_be16(const uint8_t *p) { return __builtin_bswap16(get16(p)); }
 static always_inline uint32_t get32(const uint8_t *p) { uint32_t x; __builtin_memcpy(&x, p, 4); return x; }
 static always_inline uint64_t get_node(const uint8_t *p) { uint64_t x; __builtin_memcpy(&x, p, 8); return __builtin_bswap64(x); }
 
@@ -91,6 +94,19 @@ static always_inline int read_outer(const uint8_t *msg, size_t len, struct wv_me
 	return 0;
 }
 
+/* What refuses an IP packet, 0 for nothing. It has to be as long as its own header says: IPv4 gives the total, IPv6 what follows the header. */
+static int check_packet(const uint8_t *packet, size_t len)
+{
+	switch (packet[0] >> 4) {
+	case 4:
+		return len >= IPV4_HEADER_LEN && len == get_be16(packet + 2) ? 0 : WV_BAD_PACKET_LENGTH;
+	case 6:
+		return len >= IPV6_HEADER_LEN && len - IPV6_HEADER_LEN == get_be16(packet + 4) ? 0 : WV_BAD_PACKET_LENGTH;
+	default:
+		return WV_BAD_PACKET;
+	}
+}
+
 static always_inline int read_message(const uint8_t *msg, size_t len, struct wv_message *m, size_t *offset)
 {
 	size_t at;
@@ -105,12 +121,13 @@ static always_inline int read_message(const uint8_t *msg, size_t len, struct wv_
 	if (m->header & WV_TUNNELLED) {
 		if (p[0] != 1)
 			return refuse(WV_BAD_TUNNEL_VERSION, at, offset);
-		if (p[1] >> 4 != 4 && p[1] >> 4 != 6)
-			return refuse(WV_BAD_PACKET, at + 1, offset);
+		at += 1;
+		refusal = check_packet(msg + at, end - at);
+		if (refusal)
+			return refuse(refusal, at, offset);
 		m->exchange = m->type = 0;
 		m->exchange_id = 0;
 		m->profile_id = m->acked_id = 0;
-		at += 1;
 	} else {
 		unsigned x = p[0];
 

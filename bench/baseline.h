@@ -48,6 +48,7 @@ enum wv_refusal {
 	WV_SAVED_LENGTH,
 	WV_SAVED_ROW,
 	WV_SAVED_TWICE,
+	WV_BAD_PACKET_LENGTH,
 };
 
 /* A part of the caller's bytes; empty where there is none. */

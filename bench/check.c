@@ -1,6 +1,6 @@
 /* check: the worked examples through the adapter: X and its acknowledgement, the refusals of two bytes and those of messages with a field at fault,
- * each with its byte, the ledger P1 to P12 by its verdicts, and the row of X saved, restored and refused. Exit status: 0, or the number of the first
- * that fails: 1 to 12 for the ledger, 101 and up for the rest. */
+ * each with its byte, packets of many lengths, the ledger P1 to P12 by its verdicts, and the row of X saved, restored and refused. Exit status: 0, or the
+ * number of the first that fails: 1 to 12 for the ledger, 101 and up for the rest. */
 #include "start.h"
 #include "messages.h"
 
@@ -80,6 +80,30 @@ static void fields_at_fault(void)
 	must(142, refuses(too_long, sizeof too_long, 1, 1232) && refuses(X, 1, 2, 1) && refuses(X, 0, 2, 0));
 }
 
+/* Packets of both families, plain and encrypted, of every length up to 80 bytes, with a header that says each of many lengths. */
+static void packet_lengths(void)
+{
+	enum { MOST = 80, HEAD = 24, CHECK = 20 };
+	static const struct { uint8_t first, header, at, uncounted; } families[] = { { 0x45, 20, 2, 0 }, { 0x60, 40, 4, 40 } };
+
+	for (unsigned i = 0; i < 4; i++) {
+		uint8_t message[HEAD + 1 + MOST + CHECK] = { 0 }, header = families[i / 2].header, uncounted = families[i / 2].uncounted;
+		size_t first = i % 2 ? HEAD + 1 : HEAD - 1, after = i % 2 ? CHECK : 0;
+
+		for (size_t k = 0; k < first - 1; k++)
+			message[k] = secret[k];
+		message[0] = i % 2 ? 0x10 : 0x00, message[1] = 0x27, message[first - 1] = 1, message[first] = families[i / 2].first;
+		for (unsigned given = 0; given <= UINT16_MAX; given += given < 300 ? 1 : 255) {
+			message[first + families[i / 2].at] = (uint8_t)(given >> 8), message[first + families[i / 2].at + 1] = (uint8_t)given;
+			for (size_t n = 1; n <= MOST; n++)
+				if (n >= header && given + uncounted == n)
+					must(150 + (long)i, receive(message, first + n + after).refusal == 0);
+				else
+					must(154 + (long)i, refuses(message, first + n + after, 27, first));
+		}
+	}
+}
+
 /* The row of X, saved and restored; and two rows, the second with one byte changed, taken or refused. */
 static void saved_rows(void)
 {
@@ -120,6 +144,7 @@ static void bench_begin(long *stack)
 	for (int i = 0; i < 6; i++)
 		must(110 + i, refuses(TWO[i], 2, TWO[i][2], TWO[i][2] == 2 ? 2 : 0));
 	fields_at_fault();
+	packet_lengths();
 
 	gw_open(table);
 	must(1, ask(false, 5) == 'n' && marks(5) == 0);

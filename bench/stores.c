@@ -45,6 +45,7 @@ static const struct arrival arrivals[] = {
 	{ whole, sizeof whole, 5, NODE, true, 56, 56 },
 	{ whole, sizeof whole, 6, NODE, true, 56, 56 },
 	{ whole, 55, 7, NODE, true, 56, 2 * 65536 + 55 },
+	{ tunnel, sizeof tunnel - 1, 8, NODE, true, 64, 27 * 65536 + 23 },
 }, to_a_full_table[] = {
 	{ X, sizeof X, 9, NODE, true, 34, 34 },
 	{ whole, sizeof whole, 8, NODE, true, 56, 56 },

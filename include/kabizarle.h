@@ -7,13 +7,13 @@
  * Offset.    A call that reads a message and refuses puts the byte at fault into `offset`, counted from 0; a call that refuses
  *            nothing leaves `offset` as it was. For refusal 1 it is KABIZARLE_LONGEST, for 2 the length of the message, for 3 to 6
  *            the header's first byte, 0. For others it is the first byte of the field: 7 key id, 8 source, 9 destination, 10 and
- *            11 exchange header, 12 tunnel version, 13 packet. From 15 on it is 0: those are about no byte of the message.
+ *            11 exchange header, 12 tunnel version, 13 and 27 packet. For 15 to 20 it is 0: those are about no byte of the message.
  * Memory.    The caller owns all of it. The library has no heap and no global state, and keeps no pointer after a call.
  *            An array is lent at its full size, and no two things that are lent to one call may overlap. A pointer whose
  *            length is 0 may be NULL; no other may, `offset` and `written` neither.
  * Lengths.   Any number is a length. What is longer than a message can be, or than all saved rows can be, is refused and not read,
- *            but for the first byte of a payload; of a stream the first two bytes are read. No more of a room is written than is
- *            needed. Past PTRDIFF_MAX, which no object has, this is tested and not proved.
+ *            but for the first byte of a payload and the first six of a packet; of a stream the first two bytes are read. No more of a
+ *            room is written than is needed. Past PTRDIFF_MAX, which no object has, this is tested and not proved.
  * Threads.   One caller at a time for one table; calls with different tables may run at once.
  * The table. KABIZARLE_TABLE_WORDS words; all zero is the empty table. Its rows are KABIZARLE_ROW_WORDS words each. Save it before
  *            the power goes off, and restore it at the next start: a table that starts empty takes old messages as new.
@@ -104,42 +104,43 @@ extern "C" {
 #define KABIZARLE_MARKS_WORD 2 /* bits 14 to 0: the marks */
 
 /* Refusals. */
-#define KABIZARLE_NO_REFUSAL 0            /* the answer of a call that refuses nothing */
-#define KABIZARLE_REFUSED_TOO_LONG 1      /* longer than 1,232 bytes */
-#define KABIZARLE_REFUSED_TOO_SHORT 2     /* fewer bytes than the fields need */
-#define KABIZARLE_REFUSED_VERSION 3       /* a version other than 1 and 2 */
-#define KABIZARLE_REFUSED_RESERVED 4      /* a reserved bit of the header is set */
-#define KABIZARLE_REFUSED_OLD_TUNNEL 5    /* a tunnelled message of version 1 */
-#define KABIZARLE_REFUSED_ENCRYPT 6       /* an encrypt type other than 0 and 1 */
-#define KABIZARLE_REFUSED_KEY 7           /* encrypted, with a key type other than 1 and 2 */
-#define KABIZARLE_REFUSED_SOURCE 8        /* a source that is all zero or all ones */
-#define KABIZARLE_REFUSED_DESTINATION 9   /* a destination that is all zero */
-#define KABIZARLE_REFUSED_EXCHANGE 10     /* F is zero, or a reserved bit of the exchange header is set */
-#define KABIZARLE_REFUSED_OLD_ASKS 11     /* A or R in version 1 */
-#define KABIZARLE_REFUSED_TUNNEL 12       /* a tunnel version other than 1 */
-#define KABIZARLE_REFUSED_PACKET 13       /* a packet that is neither IPv4 nor IPv6 */
-#define KABIZARLE_REFUSED_STRAY 14        /* writing: a place that its field cannot hold, an absent field not 0, or a wrong check length */
-#define KABIZARLE_REFUSED_OWN_NODE 15     /* the own node is all zero or all ones */
-#define KABIZARLE_REFUSED_NOT_OURS 16     /* the destination is neither the own node nor Any */
-#define KABIZARLE_REFUSED_SENDER 17       /* no source in the message, and the link's node is all zero or all ones */
-#define KABIZARLE_REFUSED_CHECK 18        /* encrypted, and the check did not pass */
-#define KABIZARLE_REFUSED_NO_ROOM 19      /* the output buffer is too small; saving: for all rows in use */
-#define KABIZARLE_REFUSED_FULL 20         /* the name has no row, and all rows are in use */
-#define KABIZARLE_REFUSED_NO_ROW 21       /* the name to be removed has no row */
-#define KABIZARLE_REFUSED_UNWRITABLE 22   /* the acknowledgement cannot be written, for a reason other than its room */
-#define KABIZARLE_REFUSED_SAVED_MARK 23   /* saved rows: a record does not begin with 52 57 */
-#define KABIZARLE_REFUSED_SAVED_LENGTH 24 /* saved rows: a length that is no multiple of 18, or more than 32 records */
-#define KABIZARLE_REFUSED_SAVED_ROW 25    /* saved rows: a node all zero or all ones, a key id neither 0 nor of type 1 or 2, or bit 15 of the marks set */
-#define KABIZARLE_REFUSED_SAVED_TWICE 26  /* saved rows: a name twice */
+#define KABIZARLE_NO_REFUSAL 0             /* the answer of a call that refuses nothing */
+#define KABIZARLE_REFUSED_TOO_LONG 1       /* longer than 1,232 bytes */
+#define KABIZARLE_REFUSED_TOO_SHORT 2      /* fewer bytes than the fields need */
+#define KABIZARLE_REFUSED_VERSION 3        /* a version other than 1 and 2 */
+#define KABIZARLE_REFUSED_RESERVED 4       /* a reserved bit of the header is set */
+#define KABIZARLE_REFUSED_OLD_TUNNEL 5     /* a tunnelled message of version 1 */
+#define KABIZARLE_REFUSED_ENCRYPT 6        /* an encrypt type other than 0 and 1 */
+#define KABIZARLE_REFUSED_KEY 7            /* encrypted, with a key type other than 1 and 2 */
+#define KABIZARLE_REFUSED_SOURCE 8         /* a source that is all zero or all ones */
+#define KABIZARLE_REFUSED_DESTINATION 9    /* a destination that is all zero */
+#define KABIZARLE_REFUSED_EXCHANGE 10      /* F is zero, or a reserved bit of the exchange header is set */
+#define KABIZARLE_REFUSED_OLD_ASKS 11      /* A or R in version 1 */
+#define KABIZARLE_REFUSED_TUNNEL 12        /* a tunnel version other than 1 */
+#define KABIZARLE_REFUSED_PACKET 13        /* a packet that is neither IPv4 nor IPv6 */
+#define KABIZARLE_REFUSED_STRAY 14         /* writing: a place that its field cannot hold, an absent field not 0, or a wrong check length */
+#define KABIZARLE_REFUSED_OWN_NODE 15      /* the own node is all zero or all ones */
+#define KABIZARLE_REFUSED_NOT_OURS 16      /* the destination is neither the own node nor Any */
+#define KABIZARLE_REFUSED_SENDER 17        /* no source in the message, and the link's node is all zero or all ones */
+#define KABIZARLE_REFUSED_CHECK 18         /* encrypted, and the check did not pass */
+#define KABIZARLE_REFUSED_NO_ROOM 19       /* the output buffer is too small; saving: for all rows in use */
+#define KABIZARLE_REFUSED_FULL 20          /* the name has no row, and all rows are in use */
+#define KABIZARLE_REFUSED_NO_ROW 21        /* the name to be removed has no row */
+#define KABIZARLE_REFUSED_UNWRITABLE 22    /* the acknowledgement cannot be written, for a reason other than its room */
+#define KABIZARLE_REFUSED_SAVED_MARK 23    /* saved rows: a record does not begin with 52 57 */
+#define KABIZARLE_REFUSED_SAVED_LENGTH 24  /* saved rows: a length that is no multiple of 18, or more than 32 records */
+#define KABIZARLE_REFUSED_SAVED_ROW 25     /* saved rows: a node all zero or all ones, a key id neither 0 nor of type 1 or 2, or bit 15 of the marks set */
+#define KABIZARLE_REFUSED_SAVED_TWICE 26   /* saved rows: a name twice */
+#define KABIZARLE_REFUSED_PACKET_LENGTH 27 /* a packet that is shorter than its own header, or of another length than that gives */
 
 /* Says which part of a message the radio module has to open. Refuses with 1 to 9; `offset` gets the byte at fault. */
 uint32_t kabizarle_read_outer(const uint8_t *bytes, size_t length, uint64_t part[KABIZARLE_PART_PLACES], uint64_t *offset);
 
-/* Reads a message into all places of `fields`. Refuses with 1 to 13; `offset` gets the byte at fault. */
+/* Reads a message into all places of `fields`. Refuses with 1 to 13 and 27; `offset` gets the byte at fault. */
 uint32_t kabizarle_read(const uint8_t *bytes, size_t length, uint64_t fields[KABIZARLE_FIELDS], uint64_t *offset);
 
 /* Writes the message of places HEADER to ACKNOWLEDGED, with its payload and check; `written` gets its length. A number that its field
- * cannot hold, as a header with a reserved bit, is refused with 14 before all else; then 1 to 3, 5 to 9, 11, 13, 14 and 19. */
+ * cannot hold, as a header with a reserved bit, is refused with 14 before all else; then 1 to 3, 5 to 9, 11, 13, 14, 19 and 27. */
 uint32_t kabizarle_write(const uint64_t fields[KABIZARLE_FIELDS], const uint8_t *payload, size_t payload_length,
                          const uint8_t *check, size_t check_length, uint8_t *out, size_t room, uint64_t *written);
 
@@ -150,14 +151,14 @@ uint32_t kabizarle_unframe(const uint8_t *stream, size_t length, uint64_t frame[
  * in place. Refuses with 1 and 19. */
 uint32_t kabizarle_frame(const uint8_t *message, size_t length, uint8_t *out, size_t room, uint64_t *written);
 
-/* Reads a message, gives its verdict, moves its row and writes the acknowledgement that it wants. Refuses with 1 to 13 and 15 to 20; 22 never comes.
+/* Reads a message, gives its verdict, moves its row and writes the acknowledgement that it wants. Refuses with 1 to 13, 15 to 20 and 27; 22 never comes.
  *   own     the gateway's own node
  *   link    the node at the other end of the link, the sender of a message without a source; 0 if it is not known
  *   passed  what the radio module says of the check of an encrypted message; not looked at for a plain one
  *   id      the message id of the acknowledgement, a new one for each
  *   bytes   the message, opened by the radio module if it is encrypted
  *   out     where the acknowledgement goes: 34 bytes, encrypted 56, and none where fields[KABIZARLE_REPLY_LENGTH] is 0
- *   offset  where the byte at fault goes: for 1 to 13 as kabizarle_read gives it, for 15 to 20 it is 0 */
+ *   offset  where the byte at fault goes: for 1 to 13 and 27 as kabizarle_read gives it, for 15 to 20 it is 0 */
 uint32_t kabizarle_receive(uint64_t own, uint64_t link, bool passed, uint32_t id, const uint8_t *bytes, size_t length,
                            uint64_t table[KABIZARLE_TABLE_WORDS], uint8_t *out, size_t room, uint64_t fields[KABIZARLE_FIELDS],
                            uint64_t *offset);

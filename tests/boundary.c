@@ -16,14 +16,17 @@
 /* The place where X and its kin have the last byte of the source node. */
 enum { NAME_AT = 13, REPLY_ID = 9, MARKS = 0x7fff };
 
+/* Where TUNNEL has its packet. */
+enum { PACKET_AT = 7 };
+
 /* The worked example of a message, and its acknowledgement with message id 9. */
 static const uint8_t X[30] = { 0x00, 0x23, 5, 0, 0, 0, 2, 0, 0, 0, 0, 0, 0, 0x0e, 2, 0, 0, 0, 0, 0, 0, 1, 0x15, 2, 2, 1, 0, 0, 0, 0 };
 static const uint8_t REPLY[34] = { 0x00, 0x23, REPLY_ID, 0, 0, 0, 2, 0, 0, 0, 0, 0, 0, 1, 2, 0, 0, 0, 0, 0, 0, 0x0e, 0x12, 2, 2, 1, 0, 0, 0, 0, 5 };
 
-/* Encrypted under a session key, both nodes, I, A and R, a payload of 3 bytes; and a tunnelled packet of 5 bytes, with no node. */
+/* Encrypted under a session key, both nodes, I, A and R, a payload of 3 bytes; and a tunnelled IPv4 packet of 25 bytes, with no node. */
 static const uint8_t SECRET[59] = { 0x10, 0x23, 5, 0, 0, 0, 2, 0, 0, 0, 0, 0, 0, 0x0e, 2, 0, 0, 0, 0, 0, 0, 1, 1, 0x20, 0x17, 7, 2, 1, 4, 3, 2, 1,
 	8, 7, 6, 5, 'a', 'b', 'c', 1, 2, 3, 4, 5, 6, 7, 8, 9, 10, 11, 12, 13, 14, 15, 16, 17, 18, 19, 20 };
-static const uint8_t TUNNEL[12] = { 0x00, 0x24, 6, 0, 0, 0, 1, 0x45, 1, 2, 3, 4 };
+static const uint8_t TUNNEL[32] = { 0x00, 0x24, 6, 0, 0, 0, 1, 0x45, 0, 0, 25, 0, 0, 0, 0, 64, 253, 0x8d, 0x8c, 192, 0, 2, 33, 198, 51, 100, 7, 1, 2, 3, 4, 5 };
 
 /* All that a call can be lent, and a copy from before the call. */
 static struct lent {
@@ -144,7 +147,7 @@ static void refused_inside(uint32_t number, uint64_t at, const uint8_t *bytes, s
 /* Some bytes of a message overwritten, all by the same: the message is refused at a byte. */
 static void spoiled(uint32_t number, uint64_t at, const uint8_t *message, size_t length, size_t first, size_t count, int byte)
 {
-	uint8_t bytes[64];
+	uint8_t bytes[96];
 
 	memcpy(bytes, message, length);
 	memset(bytes + first, byte, count);
@@ -171,7 +174,8 @@ static void refusals_of_reading(void)
 			spoiled(KABIZARLE_REFUSED_EXCHANGE, 22, X, sizeof X, 22, 1, 0x15 + bit);
 	spoiled(KABIZARLE_REFUSED_OLD_ASKS, 22, X, sizeof X, 1, 1, 0x13);
 	spoiled(KABIZARLE_REFUSED_TUNNEL, 6, TUNNEL, sizeof TUNNEL, 6, 1, 2);
-	spoiled(KABIZARLE_REFUSED_PACKET, 7, TUNNEL, sizeof TUNNEL, 7, 1, 0x55);
+	spoiled(KABIZARLE_REFUSED_PACKET, PACKET_AT, TUNNEL, sizeof TUNNEL, PACKET_AT, 1, 0x55);
+	spoiled(KABIZARLE_REFUSED_PACKET_LENGTH, PACKET_AT, TUNNEL, sizeof TUNNEL, PACKET_AT + 3, 1, 24);
 }
 
 /* The shapes of a message: the two bytes of its header, and where destination, key id and body start; 0 for a field that it does not have. */
@@ -180,24 +184,47 @@ static const struct shape { uint8_t low, high, destination, key, body; } SHAPES[
 	{ 0x10, 0x20, 0, 6, 8 }, { 0x10, 0x21, 6, 14, 16 }, { 0x10, 0x22, 0, 14, 16 }, { 0x10, 0x23, 14, 22, 24 },
 };
 
-/* The shortest legal message of a shape, general or tunnelled, with nodes and key id that are all 0x21: its length. */
-static size_t shaped(const struct shape *s, bool tunnelled, uint8_t *bytes)
+/* How many check bytes a message of a shape has. */
+static size_t check_bytes(const struct shape *s) { return s->key ? KABIZARLE_CHECK_BYTES : 0; }
+
+/* The families of a packet: its first byte, how long its header is at least, where that gives the length, and how much of it is not counted. */
+static const struct family { uint8_t first, header, at, uncounted; } FAMILIES[] = { { 0x45, 20, 2, 0 }, { 0x60, 40, 4, 40 } };
+
+/* A tunnelled message of a shape, with nodes and key id that are all 0x21 and a packet of some bytes, whose header gives a length: the message's length. */
+static size_t tunnelled(const struct shape *s, const struct family *f, size_t count, uint64_t given, uint8_t *bytes)
 {
-	size_t length = s->body + (tunnelled ? 2u : 8u) + (s->key ? KABIZARLE_CHECK_BYTES : 0u);
+	size_t length = s->body + 1 + count + check_bytes(s);
+	uint8_t packet[KABIZARLE_LONGEST];
 
 	memset(bytes, 0x21, length);
-	bytes[0] = s->low, bytes[1] = (uint8_t)(s->high + (tunnelled ? 4 : 0));
-	bytes[s->body] = tunnelled ? 1 : 0x11;
-	bytes[s->body + 1] = 0x45;
+	bytes[0] = s->low, bytes[1] = (uint8_t)(s->high + 4), bytes[s->body] = 1;
+	memset(packet, 0x21, count);
+	packet[0] = f->first, packet[f->at] = (uint8_t)(given >> 8), packet[f->at + 1] = (uint8_t)given;
+	memcpy(bytes + s->body + 1, packet, count);
+	return length;
+}
+
+/* The shortest legal message of a shape, general or with an IPv4 packet, with nodes and key id that are all 0x21: its length. */
+static size_t shaped(const struct shape *s, bool general, uint8_t *bytes)
+{
+	size_t length = tunnelled(s, FAMILIES, FAMILIES->header, FAMILIES->header, bytes);
+
+	if (general) {
+		length = s->body + 8 + check_bytes(s);
+		memset(bytes + s->body, 0x21, length - s->body);
+		bytes[1] = s->high, bytes[s->body] = 0x11;
+	}
 	MUST(read_message(lend(bytes, length), length) == 0 && read_outer(lend(bytes, length), length) == 0);
 	return length;
 }
 
-/* The address fields of a message of a shape at fault, and every cut of it. */
-static void addresses_at_fault(const struct shape *s, const uint8_t *message, size_t length)
+/* The address fields of a message of a shape at fault, and every cut of it; from the fixed part on it is a packet that is cut. */
+static void addresses_at_fault(const struct shape *s, const uint8_t *message, size_t length, size_t fixed)
 {
-	for (size_t n = 0; n < length; n++)
+	for (size_t n = 0; n < fixed; n++)
 		refused(KABIZARLE_REFUSED_TOO_SHORT, n, message, n);
+	for (size_t n = fixed; n < length; n++)
+		refused_inside(KABIZARLE_REFUSED_PACKET_LENGTH, s->body + 1u, message, n);
 	if (s->key) {
 		spoiled(KABIZARLE_REFUSED_KEY, s->key, message, length, s->key + 1u, 1, 0x30);
 		spoiled(KABIZARLE_REFUSED_KEY, s->key, message, length, s->key, 2, 0);
@@ -213,15 +240,16 @@ static void addresses_at_fault(const struct shape *s, const uint8_t *message, si
 /* Every field of every shape at fault: the byte is the first of the field, wherever it stands. */
 static void fields_at_fault(void)
 {
-	uint8_t general[64], tunnelled[64];
+	uint8_t general[96], tunnel[96];
 
 	for (const struct shape *s = SHAPES; s < SHAPES + LENGTH(SHAPES); s++) {
-		size_t n = shaped(s, false, general), m = shaped(s, true, tunnelled);
+		size_t n = shaped(s, true, general), m = shaped(s, false, tunnel);
 
-		addresses_at_fault(s, general, n);
-		addresses_at_fault(s, tunnelled, m);
-		spoiled(KABIZARLE_REFUSED_TUNNEL, s->body, tunnelled, m, s->body, 1, 2);
-		spoiled(KABIZARLE_REFUSED_PACKET, s->body + 1u, tunnelled, m, s->body + 1u, 1, 0x55);
+		addresses_at_fault(s, general, n, n);
+		addresses_at_fault(s, tunnel, m, s->body + 2 + check_bytes(s));
+		spoiled(KABIZARLE_REFUSED_TUNNEL, s->body, tunnel, m, s->body, 1, 2);
+		spoiled(KABIZARLE_REFUSED_PACKET, s->body + 1u, tunnel, m, s->body + 1u, 1, 0x55);
+		spoiled(KABIZARLE_REFUSED_PACKET_LENGTH, s->body + 1u, tunnel, m, s->body + 3u, 1, 1);
 		spoiled(KABIZARLE_REFUSED_EXCHANGE, s->body, general, n, s->body, 1, 0x01);
 		spoiled(KABIZARLE_REFUSED_EXCHANGE, s->body, general, n, s->body, 1, 0x91);
 		general[s->body] = 0x13; /* A, and no room for the acknowledged id */
@@ -230,6 +258,58 @@ static void fields_at_fault(void)
 		spoiled(KABIZARLE_REFUSED_OLD_ASKS, s->body, general, n, s->body, 1, 0x13);
 		spoiled(KABIZARLE_REFUSED_OLD_ASKS, s->body, general, n, s->body, 1, 0x14);
 	}
+}
+
+/* A packet of some bytes whose header gives a length, in a message of a shape: taken and written back, or refused with 27 by reading and receiving, at its
+ * first byte, and by writing, whatever the check and the room. Outer reading takes both. */
+static void packet_tried(const struct shape *s, const struct family *f, size_t count, uint64_t given)
+{
+	static uint8_t bytes[KABIZARLE_LONGEST];
+	size_t length = tunnelled(s, f, count, given, bytes), at = s->body + 1u, check = check_bytes(s);
+	uint8_t legal[96], *out = write_end - length;
+	size_t legal_length = shaped(s, false, legal);
+
+	if (count < f->header || given + f->uncounted != count) {
+		refused_inside(KABIZARLE_REFUSED_PACKET_LENGTH, at, bytes, length);
+		MUST(read_message(legal, legal_length) == 0);
+		const uint8_t *packet = lend(bytes + at, count);
+		REFUSED(27, kabizarle_write(lent.fields, packet, count, bytes + at + count, check, lent.out, sizeof lent.out, &lent.written));
+		REFUSED(27, kabizarle_write(lent.fields, packet, count, bytes, 1, NULL, 0, &lent.written));
+		return;
+	}
+	MUST(read_outer(lend(bytes, length), length) == 0 && read_message(lend(bytes, length), length) == 0);
+	MUST(lent.fields[KABIZARLE_PAYLOAD_START] == at && lent.fields[KABIZARLE_PAYLOAD_LENGTH] == count);
+	MUST(lent.fields[KABIZARLE_CHECK_START] == at + count && lent.fields[KABIZARLE_CHECK_LENGTH] == check);
+	const uint8_t *packet = lend(bytes + at, count);
+	REFUSED(19, kabizarle_write(lent.fields, packet, count, bytes + at + count, check, lent.out, length - 1, &lent.written));
+	REFUSED(14, kabizarle_write(lent.fields, packet, count, bytes, 1, lent.out, length - 1, &lent.written));
+	MUST(kabizarle_write(lent.fields, packet, count, bytes + at + count, check, out, length, &lent.written) == 0);
+	MUST(lent.written == length && memcmp(out, bytes, length) == 0);
+}
+
+/* Packets of both families in every shape: of every length around the one that the header gives, and below the header with one that says so; one off and
+ * far off; the longest that there is room for, and below that one byte more. */
+static void packets(void)
+{
+	for (const struct shape *s = SHAPES; s < SHAPES + LENGTH(SHAPES); s++)
+		for (const struct family *f = FAMILIES; f < FAMILIES + LENGTH(FAMILIES); f++) {
+			const size_t most = KABIZARLE_LONGEST - s->body - 1u - check_bytes(s), shortest = f->header, counts[] = { shortest, shortest + 1, 60, 300, most };
+
+			for (size_t n = 1; n < 90; n++)
+				packet_tried(s, f, n, 60 - f->uncounted);
+			for (size_t n = 1; n < shortest; n++)
+				packet_tried(s, f, n, n);
+			for (size_t i = 0; i < LENGTH(counts); i++) {
+				uint64_t given = counts[i] - f->uncounted;
+				const uint64_t others[] = { given, given + 1, given - 1, given + f->header, given - f->header, given ^ 256, given << 8 | given >> 8, UINT16_MAX };
+
+				for (size_t k = 0; k < LENGTH(others); k++)
+					packet_tried(s, f, counts[i], others[k] % 65536);
+				if (counts[i] < most)
+					packet_tried(s, f, counts[i] + 1, given);
+				packet_tried(s, f, counts[i] - 1, given);
+			}
+		}
 }
 
 /* Of several faults the one that comes first in the order decides, and with it the byte; it need not be the first in the message. */
@@ -260,17 +340,25 @@ static void first_fault(void)
 	refused_inside(KABIZARLE_REFUSED_TOO_SHORT, 52, bytes, 52);
 	bytes[1] = 0x27;
 	refused(KABIZARLE_REFUSED_TUNNEL, 24, bytes, sizeof bytes);
+	bytes[24] = 1;
+	refused(KABIZARLE_REFUSED_PACKET, 25, bytes, sizeof bytes);
+	bytes[25] = 0x60;
+	refused_inside(KABIZARLE_REFUSED_PACKET_LENGTH, 25, bytes, sizeof bytes);
+	REFUSED_AT(27, 25, receive_by(OWN, 0, false, bytes, sizeof bytes, NULL, 0)); /* its check did not pass, and it is for another */
 }
 
-/* Every cut of the messages: refused below the length that its fields need, taken from there on. */
+/* Every cut of the messages: refused with 2 below the length that its fields need; from there on taken, but for the tunnelled one, whose packet is refused
+ * with 27 until it is whole. */
 static void cuts(void)
 {
 	for (size_t n = 0; n < sizeof X; n++)
 		refused(KABIZARLE_REFUSED_TOO_SHORT, n, X, n);
 	MUST(read_message(lend(X, sizeof X), sizeof X) == 0);
-	for (size_t n = 0; n < 8; n++)
+	for (size_t n = 0; n < PACKET_AT + 1; n++)
 		refused(KABIZARLE_REFUSED_TOO_SHORT, n, TUNNEL, n);
-	MUST(read_message(lend(TUNNEL, 8), 8) == 0);
+	for (size_t n = PACKET_AT + 1; n < sizeof TUNNEL; n++)
+		refused_inside(KABIZARLE_REFUSED_PACKET_LENGTH, PACKET_AT, TUNNEL, n);
+	MUST(read_message(lend(TUNNEL, sizeof TUNNEL), sizeof TUNNEL) == 0);
 	for (size_t n = 0; n < sizeof SECRET; n++) {
 		const uint8_t *bytes = lend(SECRET, n);
 
@@ -331,23 +419,40 @@ static void largest_lengths(void)
 	}
 }
 
-/* Such a payload or check of a message to be written: nothing is written, whatever the sum of the lengths. Of a payload the first byte may be
- * looked at; here it is a packet's. */
+/* A message is to be written with a payload of such a length. Of that the first six bytes may be looked at; here they are a packet's, whose header gives
+ * the length as far as it can: what does not fit in two bytes is another length. */
+static void largest_payload(const struct family *f, size_t length, size_t check, size_t room)
+{
+	size_t given = length - f->uncounted;
+	uint8_t first[6] = { f->first };
+
+	first[f->at] = (uint8_t)(given >> 8), first[f->at + 1] = (uint8_t)given;
+	const uint8_t *payload = lend(first, sizeof first);
+	uint32_t number = lent.fields[KABIZARLE_HEADER] & KABIZARLE_TUNNELLED && given > UINT16_MAX ? KABIZARLE_REFUSED_PACKET_LENGTH : KABIZARLE_REFUSED_TOO_LONG;
+
+	REFUSED(number, kabizarle_write(lent.fields, payload, length, SECRET, check, lent.out, room, &lent.written));
+}
+
+/* Such a payload or check of a message to be written: nothing is written, whatever the sum of the lengths. */
 static void largest_payloads(const uint8_t *message, size_t message_length)
 {
 	static const size_t rooms[] = { 0, 40, sizeof lent.out };
-	const uint8_t *first = lend((const uint8_t[]){ 0x45 }, 1);
 
 	scatter();
 	MUST(read_message(message, message_length) == 0);
-	size_t check = lent.fields[KABIZARLE_CHECK_LENGTH];
+	const uint8_t *payload = message + lent.fields[KABIZARLE_PAYLOAD_START];
+	size_t payload_length = lent.fields[KABIZARLE_PAYLOAD_LENGTH], check = lent.fields[KABIZARLE_CHECK_LENGTH];
 	for (size_t i = 0; i < LENGTH(rooms); i++) {
-		for (size_t k = 0; k < LENGTH(TOO_LONG); k++) {
-			REFUSED(1, kabizarle_write(lent.fields, first, TOO_LONG[k], SECRET, check, lent.out, rooms[i], &lent.written));
-			REFUSED(14, kabizarle_write(lent.fields, first, 1, read_end, TOO_LONG[k], lent.out, rooms[i], &lent.written));
+		for (size_t k = 0; k < LENGTH(TOO_LONG); k++)
+			REFUSED(14, kabizarle_write(lent.fields, payload, payload_length, read_end, TOO_LONG[k], lent.out, rooms[i], &lent.written));
+		for (const struct family *f = FAMILIES; f < FAMILIES + LENGTH(FAMILIES); f++) {
+			for (size_t k = 0; k < LENGTH(TOO_LONG); k++)
+				largest_payload(f, TOO_LONG[k], check, rooms[i]);
+			for (size_t less = 0; less < 80; less++) {
+				largest_payload(f, SIZE_MAX - less, check, rooms[i]);
+				largest_payload(f, UINT16_MAX + (size_t)60 - less, check, rooms[i]);
+			}
 		}
-		for (size_t less = 0; less < 80; less++)
-			REFUSED(1, kabizarle_write(lent.fields, first, SIZE_MAX - less, SECRET, check, lent.out, rooms[i], &lent.written));
 	}
 }
 
@@ -375,7 +480,7 @@ static void places(void)
 {
 	static const uint64_t x[] = { 0x2300, 4 + 1, 5, SENDER, OWN, 0, 2, 0x0102, 0, 0, 30, 0, 30, 0, 0, 0 };
 	static const uint64_t secret[] = { 0x2310, 7, 5, SENDER, OWN, 0x2001, 7, 0x0102, 0x01020304, 0x05060708, 36, 3, 39, 20, 0, 0 };
-	static const uint64_t tunnel[] = { 0x2400, 0, 6, 0, 0, 0, 0, 0, 0, 0, 7, 5, 12, 0, 0, 0 };
+	static const uint64_t tunnel[] = { 0x2400, 0, 6, 0, 0, 0, 0, 0, 0, 0, 7, 25, 32, 0, 0, 0 };
 
 	scatter();
 	MUST(read_message(lend(X, sizeof X), sizeof X) == 0 && memcmp(lent.fields, x, sizeof x) == 0);
@@ -433,15 +538,17 @@ static void refusals_of_writing(void)
 	MUST(read_message(TUNNEL, sizeof TUNNEL) == 0);
 	REFUSED(2, put(0, 0, sizeof lent.out));
 	REFUSED(13, put(3, 0, sizeof lent.out)); /* its first byte is 0x10 */
+	REFUSED(27, kabizarle_write(lent.fields, TUNNEL + PACKET_AT, 24, NULL, 0, lent.out, sizeof lent.out, &lent.written));
 	for (size_t p = KABIZARLE_SOURCE; p <= KABIZARLE_ACKNOWLEDGED; p++) {
 		MUST(read_message(TUNNEL, sizeof TUNNEL) == 0);
-		lent.fields[p] = 0x2001; /* a tunnelled message with no node has none of these fields */
-		REFUSED(14, kabizarle_write(lent.fields, TUNNEL + 7, 5, NULL, 0, lent.out, sizeof lent.out, &lent.written));
+		lent.fields[p] = 0x21; /* a tunnelled message with no node has none of these fields */
+		REFUSED(14, kabizarle_write(lent.fields, TUNNEL + PACKET_AT, 25, NULL, 0, lent.out, sizeof lent.out, &lent.written));
+		REFUSED(27, kabizarle_write(lent.fields, TUNNEL + PACKET_AT, 24, NULL, 0, lent.out, sizeof lent.out, &lent.written));
 	}
 	MUST(read_message(TUNNEL, sizeof TUNNEL) == 0);
 	for (uint64_t bit = KABIZARLE_INITIATOR; bit <= KABIZARLE_WANTS; bit *= 2) {
 		lent.fields[KABIZARLE_FLAGS] = bit;
-		REFUSED(14, kabizarle_write(lent.fields, TUNNEL + 7, 5, NULL, 0, lent.out, sizeof lent.out, &lent.written));
+		REFUSED(14, kabizarle_write(lent.fields, TUNNEL + PACKET_AT, 25, NULL, 0, lent.out, sizeof lent.out, &lent.written));
 	}
 }
 
@@ -894,6 +1001,7 @@ int main(void)
 	}
 	refusals_of_reading();
 	fields_at_fault();
+	packets();
 	first_fault();
 	cuts();
 	empty_slices();

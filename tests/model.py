@@ -1,6 +1,6 @@
 """The rules of the scope document and of the requests, worked out plainly: bytes by slicing, refusals in the order in which they are listed, each
 with the byte at fault, and every verdict afresh from the full list of accepted positions. It shares nothing with the crates; the tests hold the
-programs to it."""
+programs to it. What an earlier stage of the rules came to, it can say too."""
 
 LONGEST = 1232
 ANY = 2 ** 64 - 1
@@ -8,6 +8,9 @@ MARKS = 15
 ROWS = 32
 RECORD = 18
 SAVED = b'\x52\x57'
+# The stages that the answers went through, by the request that each came with: from k2 on a refusal has a byte, from k4 on a packet is measured. Saving
+# and restoring, which came with k1, are there at every stage.
+STAGES = ('base', 'k1', 'k2', 'k4')
 FIELDS = ('version', 'T', 'S', 'D', 'encrypt', 'id', 'source', 'destination', 'key', 'I', 'A', 'R', 'type', 'exchange', 'profile', 'acknowledged')
 
 
@@ -36,6 +39,13 @@ def high(data):
 
 def nobody(node):
     return node in (0, ANY)
+
+
+def mismeasured(packet):
+    """Whether a packet is shorter than its header, or of another length than that gives. IPv4 counts all of it, IPv6 what follows 40 bytes."""
+    if packet[0] >> 4 == 4:
+        return len(packet) < 20 or high(packet[2:4]) != len(packet)
+    return len(packet) < 40 or high(packet[4:6]) + 40 != len(packet)
 
 
 # ---- reading
@@ -68,13 +78,14 @@ def outer(data):
     return v, at
 
 
-def read(data):
-    """The value, the payload and the check."""
+def read(data, measure=True):
+    """The value, the payload and the check. Before K4 a packet was not measured."""
     v, at = outer(data)
     end = len(data) - 20 * v['encrypt']
     if v['T']:
         refuse(12, data[at] != 1, at)
         refuse(13, data[at + 1] >> 4 not in (4, 6), at + 1)
+        refuse(27, measure and mismeasured(data[at + 1:end]), at + 1)
         return v, data[at + 1:end], data[end:]
     x = data[at]
     refuse(10, not x >> 4 & 1 or x & 0xe8, at)
@@ -103,7 +114,7 @@ def encode(v, payload, check):
     return out + payload + check
 
 
-def write(v, payload, check, room):
+def write(v, payload, check, room, measure=True):
     refuse(3, v['version'] not in (1, 2))
     refuse(5, v['T'] and v['version'] == 1)
     refuse(6, v['encrypt'] not in (0, 1))
@@ -113,6 +124,7 @@ def write(v, payload, check, room):
     refuse(11, v['version'] == 1 and (v['A'] or v['R']))
     refuse(2, v['T'] and not payload)
     refuse(13, v['T'] and payload[0] >> 4 not in (4, 6))
+    refuse(27, v['T'] and measure and mismeasured(payload))
     absent = []
     absent += [] if v['S'] else ['source']
     absent += [] if v['D'] else ['destination']
@@ -186,8 +198,9 @@ class Row:
 # ---- the gateway
 
 class Gateway:
-    def __init__(self):
+    def __init__(self, measure=True):
         self.rows = [Row() for _ in range(ROWS)]
+        self.measure = measure
 
     def find(self, node, key):
         return next((r for r in self.rows if r.used and (r.node, r.key) == (node, key)), None)
@@ -195,7 +208,7 @@ class Gateway:
     def receive(self, own, link, passed, ack_id, data, room):
         """New or not, the value, and the acknowledgement's bytes."""
         refuse(15, nobody(own))
-        v, _, _ = read(data)
+        v, _, _ = read(data, self.measure)
         refuse(16, v['D'] and v['destination'] not in (own, ANY))
         refuse(17, not v['S'] and nobody(link))
         refuse(18, v['encrypt'] and not passed)
@@ -273,16 +286,20 @@ def after(room, out):
 
 
 class Conform:
-    """One line for each command, as the program `conform` prints it."""
+    """One line for each command, as the program `conform` prints it, or printed it at an earlier stage."""
 
-    def __init__(self):
-        self.gateway = Gateway()
+    def __init__(self, stage=STAGES[-1]):
+        self.points, self.measure = (STAGES.index(stage) >= STAGES.index(request) for request in ('k2', 'k4'))
+        self.gateway = Gateway(self.measure)
+
+    def refused(self, refusal):
+        return str(refusal) if self.points else 'refused %d' % refusal.number
 
     def written(self, word, room, make):
         try:
             out = make()
         except Refused as r:
-            return '%s %s' % (r, after(room, b''))
+            return '%s %s' % (self.refused(r), after(room, b''))
         return '%s %d %s' % (word, len(out), after(room, out))
 
     def line(self, command):
@@ -291,15 +308,15 @@ class Conform:
         name, body = command[0], command[1:]
         if name == 1:
             try:
-                v, payload, check = read(body)
+                v, payload, check = read(body, self.measure)
             except Refused as r:
-                return '%s - -' % r
+                return '%s - -' % self.refused(r)
             return 'taken %s %s %s' % (shown(v), text(payload), text(check))
         if name == 2:
             try:
                 v, at = outer(body)
             except Refused as r:
-                return str(r)
+                return self.refused(r)
             start = at if v['encrypt'] else len(body)
             return 'outer %d %d' % (start, len(body) - start)
         if name == 3:
@@ -308,7 +325,7 @@ class Conform:
             room, n = low(body[41:43]), low(body[43:45])
             if room > 1300 or len(body) < 45 + n:
                 return 'bad'
-            return self.written('wrote', room, lambda: write(value(body), body[45:45 + n], body[45 + n:], room))
+            return self.written('wrote', room, lambda: write(value(body), body[45:45 + n], body[45 + n:], room, self.measure))
         if name == 4:
             wanted, message, rest = unframe(body)
             return '%s %s %s' % ('incomplete %d' % wanted if wanted else 'message', text(message), text(rest))
@@ -324,7 +341,7 @@ class Conform:
             new = row.hear(low(body[17:21]))
             return '%s %d %016x %d %d %d' % (('new' if new else 'duplicate',) + row.fields())
         if name == 7:
-            self.gateway = Gateway()
+            self.gateway = Gateway(self.measure)
             return 'empty'
         if name == 8:
             if len(body) < 18 or body[0] > 31:
@@ -339,7 +356,7 @@ class Conform:
             try:
                 self.gateway.remove(high(body[0:8]), low(body[8:10]))
             except Refused as r:
-                return str(r)
+                return self.refused(r)
             return 'removed'
         if name == 11:
             rows = [(i,) + r.fields() for i, r in enumerate(self.gateway.rows)]
@@ -353,7 +370,7 @@ class Conform:
             try:
                 return 'restored %d' % self.gateway.restore(body)
             except Refused as r:
-                return str(r)
+                return self.refused(r)
         return 'bad'
 
     def record(self, body):
@@ -366,13 +383,13 @@ class Conform:
         try:
             new, v, ack = self.gateway.receive(high(body[0:8]), high(body[8:16]), body[16], low(body[17:21]), body[23:], room)
         except Refused as r:
-            return '%s %s' % (r, after(room, b''))
+            return '%s %s' % (self.refused(r), after(room, b''))
         return '%s %d %s %s' % ('new' if new else 'duplicate', len(ack), after(room, ack), shown(v))
 
 
-def conform(data):
-    """What the program prints for a whole input."""
-    program, lines = Conform(), []
+def conform(data, stage=STAGES[-1]):
+    """What the program prints for a whole input, or printed at an earlier stage."""
+    program, lines = Conform(stage), []
     while data:
         wanted, command, rest = unframe(data)
         if wanted:

@@ -1,6 +1,6 @@
 """Inputs for the programs `conform` and `listing`, made with a fixed seed: messages that are legal, nearly legal and rubbish, of every shape with each
-field at fault and cut at every length, every single-bit change of message X, ids at every edge of the rule of positions, tables handed in as no message
-could leave them, and saved rows, as they stand and with one or two faults."""
+field at fault and cut at every length, packets of both families that have the length that their header gives and others, every single-bit change of message X, ids at
+every edge of the rule of positions, tables handed in as no message could leave them, and saved rows, as they stand and with one or two faults."""
 import itertools
 import random
 
@@ -8,6 +8,8 @@ import model
 
 X = bytes.fromhex('002305000000020000000000000e02000000000000011502020100000000')
 OWN = 0x0200000000000001
+# The families of a packet: how long the header is at least, where it has the length of two bytes, high byte first, and how much that does not count.
+FAMILIES = {4: (20, 2, 0), 6: (40, 4, 40)}
 EDGES = (0, 1, 2, 14, 15, 16, 17, 2 ** 31 - 1, 2 ** 31, 2 ** 31 + 1, 2 ** 32 - 17, 2 ** 32 - 16, 2 ** 32 - 15, 2 ** 32 - 14, 2 ** 32 - 1)
 
 
@@ -35,7 +37,7 @@ class Maker:
 
     def value(self):
         r = self.random
-        encrypt, tunnelled = int(self.chance(0.5)), int(self.chance(0.15))
+        encrypt, tunnelled = int(self.chance(0.5)), int(self.chance(0.17))
         v = dict.fromkeys(model.FIELDS, 0)
         v.update(version=1 if self.chance(0.05 if tunnelled else 0.15) else 2, T=tunnelled, encrypt=encrypt, S=int(self.chance(0.85)), D=int(self.chance(0.8)))
         v['source'] = self.node() if v['S'] else 0
@@ -50,18 +52,29 @@ class Maker:
         return v
 
     def payload(self, v):
+        if v['T']:
+            return self.packet()
         n = self.random.choice((0, 0, 1, 4, 20, 63, 64, 200, 1150, 1190, 1232)) if self.chance(0.3) else self.random.randrange(30)
-        data = bytearray(self.random.randbytes(n))
-        if v['T'] and data and self.chance(0.9):
-            data[0] = self.random.choice((0x45, 0x60))
-        return bytes(data)
+        return self.random.randbytes(n)
+
+    def packet(self):
+        """A packet with the length that its header gives, more often than not; or one with another, of no family, or no bytes."""
+        r, kind, family = self.random, self.random.random(), self.random.choice((4, 6))
+        least = FAMILIES[family][0]
+        n = r.choice((least, least, least + 1, 64, 200, 1150, 1190, 1232)) if self.chance(0.3) else least + r.randrange(30)
+        legal = packet(family, n, r.randbytes(n))
+        if kind < 0.15:
+            return r.choice(list(mismeasured(legal).values()))
+        if kind < 0.22:
+            return bytes([r.choice((0x05, 0x35, 0x55, 0x75, 0xc5))]) + legal[1:]
+        return r.randbytes(r.randrange(30)) if kind < 0.25 else b'' if kind < 0.31 else legal
 
     def message(self):
         """The bytes of a value; now and then with one fault."""
         v = self.value()
         payload = self.payload(v)
         if v['T'] and not payload:
-            payload = b'\x45'
+            payload = packet(4, 20)
         data = bytearray(model.encode(v, payload, self.random.randbytes(20 * v['encrypt'])))
         fault = self.random.random()
         if fault < 0.10:
@@ -155,8 +168,34 @@ def shapes():
                        destination=D * OWN, key=encrypt * 0x2001)
 
 
+def packet(family, n, filling=None):
+    """A packet of a length that its header gives; all its other bytes are those of the filling, or zero."""
+    _, at, uncounted = FAMILIES[family]
+    data = bytearray(filling or bytes(n))
+    data[0] = family << 4 | data[0] & 15
+    data[at:at + 2] = (n - uncounted).to_bytes(2, 'big')
+    return bytes(data)
+
+
+def mismeasured(legal):
+    """The packets that come of a legal one when its length is spoiled, or the one in its header, by how."""
+    least, at, uncounted = FAMILIES[legal[0] >> 4]
+    given = len(legal) - uncounted
+
+    def says(n):
+        return legal[:at] + (n % 65536).to_bytes(2, 'big') + legal[at + 2:]
+
+    made = {'one more': says(given + 1), 'one fewer': says(given - 1), 'low byte first': legal[:at] + legal[at:at + 2][::-1] + legal[at + 2:],
+            'without the header': says(given - least), 'with the header': says(given + least), 'the most': says(65535), 'a high byte': says(given ^ 256),
+            'padded by one': legal + b'\x00', 'padded': legal + bytes(len(legal) % 7 + 2), 'cut by one': legal[:-1], 'cut to its header': legal[:least],
+            'first byte': legal[:1], 'cut within the length': legal[:at + 1], 'cut behind the length': legal[:at + 2], 'no whole header': legal[:least - 1]}
+    if uncounted == 0:
+        made.update(('%d bytes, and says so' % n, packet(4, n, legal[:n])) for n in (at + 2, least - 1))
+    return {how: data for how, data in made.items() if data != legal}
+
+
 def encoded(v):
-    return model.encode(v, b'\x45' if v['T'] else b'', bytes(20 * v['encrypt']))
+    return model.encode(v, packet(4, 20) if v['T'] else b'', bytes(20 * v['encrypt']))
 
 
 def spoiled(v):
@@ -165,7 +204,7 @@ def spoiled(v):
     faults = [(body - 2, b'\x01\x30')] if v['encrypt'] else []
     faults += [(6, bytes(8)), (6, b'\xff' * 8)] if v['S'] else []
     faults += [(6 + 8 * v['S'], bytes(8))] if v['D'] else []
-    faults += [(body, b'\x02'), (body + 1, b'\x55')] if v['T'] else [(body, b'\x03')]
+    faults += [(body, b'\x02'), (body + 1, b'\x55'), (body + 3, b'\x00\x15')] if v['T'] else [(body, b'\x03')]
     faults += [(body, b'\x12'), (body, b'\x14')] if v['version'] == 1 else []
     made = {}
     for chosen in [()] + [(f,) for f in faults] + list(itertools.combinations(faults, 2)):
@@ -191,9 +230,29 @@ def misread():
     return out
 
 
+def written(v, payload, room):
+    """The command that writes a value with a payload, and zero check bytes."""
+    return command(3, packed(v), two(room), two(len(payload)), payload, bytes(20 * v['encrypt']))
+
+
+def packets():
+    """Every shape of a tunnelled message with packets of both families: the shortest, one of 60 bytes, the longest and one that is too long, and the one of
+    60 bytes with its length spoiled: read, outer reading, received, written."""
+    out = []
+    for v in shapes():
+        if v['T']:
+            longest = model.LONGEST - len(encoded(v)) + 20
+            for family, (least, _, _) in FAMILIES.items():
+                some = [packet(family, n) for n in (least, 60, longest, longest + 1)]
+                for data in some + list(mismeasured(some[1]).values()):
+                    message = model.encode(v, data, bytes(20 * v['encrypt']))
+                    out += [command(1, message), command(2, message), received(message), written(v, data, 1300)]
+    return out
+
+
 def fixed():
     """The commands that are not left to chance."""
-    out = [command(1, bytes.fromhex(h)) for h in ('0020', '0030', '0120', '0028', '0014', '2020')]
+    out = [command(k, bytes.fromhex(h)) for k in (1, 2) for h in ('0020', '0030', '0120', '0028', '0014', '2020')]
     out += [command(k, X[:n]) for k in (1, 2) for n in range(len(X) + 1)]
     for bit in range(8 * len(X)):
         data = bytearray(X)
@@ -205,7 +264,7 @@ def fixed():
                 for step in EDGES:
                     row = bytes([1]) + eight(14) + two(key) + four(highest) + two(marks)
                     out.append(command(6, row, four((highest + step) % 2 ** 32)))
-    return out + misread() + restores()
+    return out + misread() + packets() + restores()
 
 
 def restores():

@@ -1,7 +1,8 @@
 // The conditions of the refusals that reading and writing share, one function each.
 ghost use mathlib.Core.Path.{_≡_};
+ghost use Prim.Native.Nat.{_+_, _≤_};
 ghost use Rattle.message.specs.Order.{first};
-ghost use Rattle.message.specs.Refusals.{badVersion, oldTunnel, badEncrypt, badKeyType, badKey, nobody, badSource, badDestination, oldAsks, badPacket, addressOrder};
+ghost use Rattle.message.specs.Refusals.{badVersion, oldTunnel, badEncrypt, badKeyType, badKey, nobody, badSource, badDestination, oldAsks, badPacket, otherLength, badLength, addressOrder};
 use message::Message;
 use message::Refusal;
 use message::layout;
@@ -92,4 +93,37 @@ pub fn bad_packet(first: u8) -> bool
 {
     let family = first / layout::FAMILY % 16;
     !((family == layout::IPV4) | (family == layout::IPV6))
+}
+
+// Whether a packet is shorter than its header, or not as long as this says: the number in two bytes at a
+// place, plus what it does not count.
+fn has_other_length(packet: &[u8], header: usize, at: usize, uncounted: usize) -> bool
+    requires { ⌜ (at + 2 ≤ header) × (uncounted ≤ 40) ⌝ }
+    ensures { λ r. ⌜ r ≡ otherLength header at uncounted (now (packet .entry)) ⌝ }
+{
+    if packet.len() < header {
+        return true;
+    }
+    let given = wire::get_big16(&packet[at..at + layout::LENGTH_FIELD]);
+    given as usize + uncounted != packet.len()
+}
+
+// 27, of a packet that 13 lets pass. Any other counts as IPv6, and an empty one is too short.
+pub fn bad_length(packet: &[u8]) -> bool
+    ensures { λ r. ⌜ r ≡ badLength (now (packet .entry)) ⌝ }
+{
+    if wire::get8(packet) / layout::FAMILY % 16 == layout::IPV4 {
+        return has_other_length(
+            packet,
+            layout::IPV4_HEADER,
+            layout::IPV4_LENGTH_AT,
+            layout::IPV4_UNCOUNTED,
+        );
+    }
+    has_other_length(
+        packet,
+        layout::IPV6_HEADER,
+        layout::IPV6_LENGTH_AT,
+        layout::IPV6_UNCOUNTED,
+    )
 }

@@ -11,9 +11,9 @@ use lib.Dec.{eqb}
 use borrow.Author.Tests.{ne-eqb, eq-eqb, le-ltb}
 use Rattle.wire.specs.Bytes.{part, little, big}
 use Rattle.message.specs.Order.{first}
-use Rattle.message.specs.Layout.{only, bodyOf, headLength, checkLength, destinationAt, keyAt}
+use Rattle.message.specs.Layout.{only, bodyOf, headLength, checkLength, upToCheck, destinationAt, keyAt}
 use Rattle.message.specs.Value.{bits, bit, header, bodyBy, exchangeHeader, addressOf, exchangedBy, messageOf}
-use Rattle.message.specs.Refusals.{oldAsks, badPacket, strayAddress, strayExchange, stray, emptyPacket, wrongPacket, total}
+use Rattle.message.specs.Refusals.{oldAsks, badPacket, badLength, strayAddress, strayExchange, stray, emptyPacket, wrongPacket, wrongLength, total}
 use Rattle.message.specs.Answers.{writing}
 use Rattle.reader.specs.Reading.{readOf}
 use Rattle.parts.specs.Parts.{payloadOf, checkOf}
@@ -87,6 +87,15 @@ module _ (bs : List ℕ) (e : readOf bs ≡ asTaken (messageOf bs)) where
   packet : wrongPacket (messageOf bs) (payloadOf bs (readOf bs)) ≡ false
   packet = when-true _ _ (λ (t : messageOf bs .tunnelled ≡ true). ap badPacket (first-byte t) ∙ k .tunnel t .packet)
 
+  -- and all of it
+  packet-is : messageOf bs .tunnelled ≡ true → payloadOf bs (readOf bs) ≡ upToCheck (messageOf bs) (bodyOf (messageOf bs) + 1) bs
+  packet-is t =
+      let m = messageOf bs in
+      parts.payload-is bs m e ∙ ap (λ (b : Bool). upToCheck m (bodyOf m + cond b 1 (8 + only (m .acknowledges) 4)) bs) t
+
+  sized : wrongLength (messageOf bs) (payloadOf bs (readOf bs)) ≡ false
+  sized = when-true _ _ (λ (t : messageOf bs .tunnelled ≡ true). ap badLength (packet-is t) ∙ k .tunnel t .sized)
+
   no-stray-address : strayAddress (messageOf bs) ≡ false
   unfolding messageOf exchangedBy addressOf
   no-stray-address =
@@ -117,7 +126,7 @@ module _ (bs : List ℕ) (e : readOf bs ≡ asTaken (messageOf bs)) where
   unfolding writingOrder
   write-zero room h =
       let o = k .outer in
-      simp (o .version, o .tunnel, o .encrypt, o .key, o .source, o .destination, asks, empty, packet, no-stray, length-is, le-ltb _ _ (k .outer .short), le-ltb _ _ h)
+      simp (o .version, o .tunnel, o .encrypt, o .key, o .source, o .destination, asks, empty, packet, sized, no-stray, length-is, le-ltb _ _ (k .outer .short), le-ltb _ _ h)
 
   accepted : (room : ℕ) → length bs ≤ room → writeOf (messageOf bs) (payloadOf bs (readOf bs)) (checkOf bs (readOf bs)) room ≡ Written (length bs)
   unfolding writeOf

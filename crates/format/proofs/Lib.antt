@@ -9,6 +9,7 @@ pub mod ValueBack
 pub mod WriteRead
 pub mod Framing
 pub mod Outer
+pub mod Packets
 pub mod Offsets
 pub mod Outcomes
 pub mod Promises

@@ -11,9 +11,9 @@ use lib.Dec.{eqb}
 use lib.ListN.{length, getD}
 use Rattle.wire.specs.Bytes.{part, little, big}
 use Rattle.message.specs.Order.{Condition, condition, firstRefusal, first}
-use Rattle.message.specs.Layout.{only, longest, sourceAt, destinationAt, keyAt, encrypted, bodyOf, fixedLength}
+use Rattle.message.specs.Layout.{only, longest, sourceAt, destinationAt, keyAt, encrypted, bodyOf, fixedLength, upToCheck}
 use Rattle.message.specs.Value.{bit, header, exchangeHeader, addressOf, exchangedBy, messageOf}
-use Rattle.message.specs.Refusals.{badVersion, reserved, oldTunnel, badEncrypt, badKeyType, badKey, nobody, badSource, badDestination, badExchange, oldAsks, badTunnel, badPacket, noRoom}
+use Rattle.message.specs.Refusals.{badVersion, reserved, oldTunnel, badEncrypt, badKeyType, badKey, nobody, badSource, badDestination, badExchange, oldAsks, badTunnel, badPacket, badLength, noRoom}
 use Rattle.message.proofs.Logic.{and-true}
 use Rattle.outer.specs.Outer.{outerOrder}
 use Rattle.reader.specs.Reading.{exchangeOrder, tunnelOrder, bodyOrder, readingOrder}
@@ -61,6 +61,9 @@ pub data AtFault (bytes : List ℕ) : ℕ → ℕ → Type 0 where
   -- the first byte of a packet that is neither IPv4 nor IPv6
   packet : messageOf bytes .tunnelled ≡ true → bodyIn bytes + 1 + 1 ≤ length bytes → badPacket (getD bytes (bodyIn bytes + 1) 0) ≡ true
       → AtFault bytes 13 (bodyIn bytes + 1)
+  -- the first byte of one that is shorter than its own header, or of another length than that gives
+  packetLength : messageOf bytes .tunnelled ≡ true → bodyIn bytes + 1 + 1 ≤ length bytes → badLength (upToCheck (messageOf bytes) (bodyIn bytes + 1) bytes) ≡ true
+      → AtFault bytes 27 (bodyIn bytes + 1)
 
 -- ---- within the message
 
@@ -80,6 +83,7 @@ within bytes (exchange p l e) = (omega arith, λ s. omega arith)
 within bytes (asks p l v e) = (omega arith, λ s. omega arith)
 within bytes (tunnel p l e) = (omega arith, λ s. omega arith)
 within bytes (packet p l e) = (omega arith, λ s. omega arith)
+within bytes (packetLength p l e) = (omega arith, λ s. omega arith)
 
 -- ---- the fields
 
@@ -145,7 +149,7 @@ module _ (bytes : List ℕ) where
   unfolding tunnelOrder exchangeOrder
   by-kind fixed true t =
       let room = tunnel-room bytes fixed t in
-      either (tunnel t (omega arith)) (λ _. either (packet t room) (λ _. none))
+      either (tunnel t (omega arith)) (λ _. either (packet t room) (λ _. either (packetLength t room) (λ _. none)))
   by-kind fixed false t = either (at-exchange bytes fixed t) (λ _. either (at-asks bytes fixed t) (λ _. either noPlace (λ _. none)))
 
   in-order : Points bytes (readingOrder bytes)

@@ -12,13 +12,13 @@ use native.Mathlib.Nat.{le-refl}
 use native.Mathlib.Omega.{arith}
 use borrow.Author.Tests.{eqb-false}
 use lib.Dec.{eqb}
-use lib.ListN.{length, take, drop}
+use lib.ListN.{length, getD, take, drop}
 use lib.Seq.{take-at}
 use Rattle.wire.proofs.Digits.{AllBytes}
 use Rattle.message.specs.Order.{Condition, firstRefusal, first}
 use Rattle.message.specs.Layout.{only, checkBytes, bodyAt, encrypted, checkLength, headLength, fixedLength}
 use Rattle.message.specs.Value.{messageOf, bytesOf}
-use Rattle.message.specs.Refusals.{strayAddress, strayExchange, total}
+use Rattle.message.specs.Refusals.{badPacket, badLength, strayAddress, strayExchange, total}
 use Rattle.message.specs.Answers.{refusal, headOf, asTaken, reading, outerReading, writing, writingNumber, bufferAfter}
 use Rattle.message.specs.declared.value.Message.{Message}
 use Rattle.message.specs.declared.answers.Refusal.{Refusal}
@@ -49,6 +49,7 @@ use Rattle.format.proofs.Sized.{Sized}
 use Rattle.format.proofs.WriteRead.{SameRead, write-read}
 use Rattle.format.proofs.Framing as framing
 use Rattle.format.proofs.Offsets.{AtFault, at-fault, within}
+use Rattle.format.proofs.Packets.{WholePacket, whole-passes, passed-is-whole, NoTail, no-tail, LengthRefused, padded, cut}
 use Rattle.format.proofs.Outer.{Protects, outer-place, protects}
 
 -- ---- taken exactly when legal
@@ -219,6 +220,29 @@ written-then-read m payload check old n z e =
     let w = written m payload check (length old) n e in
     let l : length (bytesOf m payload check) ≡ n = length-bytes m payload check (w .1 .check) ∙ w .0 in
     rw (take-at (bytesOf m payload check) (drop n old) n l) (write-read m payload check (length old) n z e)
+
+-- ---- the packet of a tunnelled message
+
+-- Exactly the whole packets pass both 13 and 27: IPv4 or IPv6, with their header, and as long as this says.
+pub passes-when-whole : (packet : List ℕ) → WholePacket packet → (badPacket (getD packet 0 0) ≡ false) × (badLength packet ≡ false)
+passes-when-whole = whole-passes
+
+pub whole-when-passed : (packet : List ℕ) → badPacket (getD packet 0 0) ≡ false → badLength packet ≡ false → WholePacket packet
+whole-when-passed = passed-is-whole
+
+-- A tunnelled message that was taken has no byte after its packet: it is the head, the packet, as long as its own header says, and the check.
+pub no-byte-after-the-packet : (bytes : List ℕ) (m : Message) → readOf bytes ≡ asTaken m → m .tunnelled ≡ true → NoTail bytes m (payloadOf bytes (readOf bytes))
+no-byte-after-the-packet = no-tail
+
+-- A packet that can be written, with any bytes behind it, is refused with 27, to be written and, up to the longest message, read, whether a check
+-- follows or not. So is one that can be written, without its last bytes, while one is left.
+pub padded-packet-is-refused : (m : Message) (packet tail check : List ℕ) (room n : ℕ) → Sized m → m .tunnelled ≡ true → writeOf m packet check room ≡ Writing.Written n
+    → 0 < length tail → LengthRefused m (packet ++ tail) check
+padded-packet-is-refused = padded
+
+pub cut-packet-is-refused : (m : Message) (packet tail check : List ℕ) (room n : ℕ) → Sized m → m .tunnelled ≡ true → writeOf m (packet ++ tail) check room ≡ Writing.Written n
+    → 0 < length tail → 0 < length packet → LengthRefused m packet check
+cut-packet-is-refused = cut
 
 -- ---- outer reading and reading
 

@@ -12,7 +12,7 @@ use Rattle.wire.specs.Bytes.{part, little, littleBytes}
 use Rattle.wire.proofs.Digits.{AllBytes}
 use Rattle.wire.proofs.Fronts.{part-take}
 use Rattle.wire.proofs.Parts.{part-then, byte-low, little-back, big-back}
-use Rattle.message.specs.Layout.{only, headLength, checkLength}
+use Rattle.message.specs.Layout.{only, headLength, checkLength, upToCheck}
 use Rattle.message.specs.Value.{bits, bit, header, bodyBy, exchangeHeader, addressOf, exchangedBy, messageOf, addressBytes, exchangeBytes, headBytes, bytesOf}
 use Rattle.message.specs.Refusals.{badExchange, reserved}
 use Rattle.reader.specs.Reading.{readOf}
@@ -98,7 +98,7 @@ module _ (bs : List ℕ) (h : AllBytes bs) where
       let f = fits bs m e in
       let g : 0 + headLength m ≤ length bs = omega arith in
       ap₂ (λ (p c : List ℕ). headBytes m ++ p ++ c) (payload-is bs m e) (check-is bs m e)
-      ∙ ap (λ (l : List ℕ). l ++ take (length bs - checkLength m - headLength m) (drop (headLength m) bs) ++ drop (length bs - checkLength m) bs)
+      ∙ ap (λ (l : List ℕ). l ++ upToCheck m (headLength m) bs ++ drop (length bs - checkLength m) bs)
       (head-back (taken bs m e .1) ∙ part-take bs 0 (headLength m) g)
       ∙ rejoin bs (headLength m) (checkLength m) f
 

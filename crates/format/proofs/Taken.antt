@@ -6,9 +6,9 @@ use mathlib.Core.List.{List}
 use Prim.Native.Nat.{ℕ}
 use native.Mathlib.Omega.{arith}
 use borrow.Author.Tests.{le-leb}
-use lib.ListN.{length, take, drop, length-drop}
+use lib.ListN.{length, drop, length-drop}
 use lib.Seq.{length-take-le}
-use Rattle.message.specs.Layout.{headLength, checkLength}
+use Rattle.message.specs.Layout.{headLength, checkLength, upToCheck}
 use Rattle.reader.specs.Reading.{readOf}
 use Rattle.parts.specs.Parts.{partOf, payloadOf, checkOf}
 use Rattle.message.specs.declared.value.Message.{Message}
@@ -27,11 +27,11 @@ pub as-taken : (bytes : List ℕ) (m : Message) (h : Head) → readOf bytes ≡ 
 as-taken bytes m h e = e ∙ ap (Taken m) (head-taken bytes m h e)
 
 module _ (bytes : List ℕ) (m : Message) (e : readOf bytes ≡ asTaken m) where
-  pub payload-is : payloadOf bytes (readOf bytes) ≡ take (length bytes - checkLength m - headLength m) (drop (headLength m) bytes)
+  pub payload-is : payloadOf bytes (readOf bytes) ≡ upToCheck m (headLength m) bytes
   unfolding payloadOf
   payload-is =
       ap (λ (r : Reading). payloadOf bytes r) e
-      ∙ ap (λ (b : Bool). partOf b (take (length bytes - checkLength m - headLength m) (drop (headLength m) bytes))) (le-leb _ _ (fits bytes m e))
+      ∙ ap (λ (b : Bool). partOf b (upToCheck m (headLength m) bytes)) (le-leb _ _ (fits bytes m e))
 
   pub check-is : checkOf bytes (readOf bytes) ≡ drop (length bytes - checkLength m) bytes
   unfolding checkOf

@@ -1,4 +1,5 @@
--- What a value that is written has: each condition of a refusal is false. Assumes nothing.
+-- What a value that is written has: each condition of a refusal is false. That of 27 stands apart, so that laws can speak of a packet that has another
+-- length than its header gives. Assumes nothing.
 use Prim.Native.Nat.{ℕ, zero, suc, _≤_}
 use mathlib.Core.Path.{_≡_, refl}
 use mathlib.Core.Bool.{true, false, not, _||_}
@@ -9,7 +10,7 @@ use lib.Dec.{eqb}
 use lib.ListN.{length}
 use Rattle.message.specs.Order.{first, noneOf}
 use Rattle.message.specs.Layout.{checkLength}
-use Rattle.message.specs.Refusals.{badVersion, oldTunnel, badEncrypt, badKey, badSource, badDestination, oldAsks, emptyPacket, wrongPacket, strayAddress, strayExchange, stray, total}
+use Rattle.message.specs.Refusals.{badVersion, oldTunnel, badEncrypt, badKey, badSource, badDestination, oldAsks, emptyPacket, wrongPacket, wrongLength, strayAddress, strayExchange, stray, total}
 use Rattle.message.specs.Answers.{writing}
 use Rattle.judge.specs.Writing.{writingOrder, writeOf}
 use Rattle.message.specs.declared.value.Message.{Message}
@@ -42,8 +43,8 @@ stray-clear m check e =
 
 pub write-clear : (m : Message) (payload check : List ℕ) (room : ℕ) → noneOf (writingOrder m payload check room) → ClearWrite m payload check room
 unfolding writingOrder
-write-clear m payload check r (version, (tunnel, (encrypt, (key, (source, (destination, (asks, (empty, (packet, (kept, (long, (lack, _)))))))))))) =
-    let (address, exchange, sized) = stray-clear m check kept in
+write-clear m payload check r (version, (tunnel, (encrypt, (key, (source, (destination, (asks, (empty, (packet, (_, (kept, (long, (lack, _))))))))))))) =
+    let (address, exchange, checked) = stray-clear m check kept in
     record {
       version = version;
       tunnel = tunnel;
@@ -56,10 +57,14 @@ write-clear m payload check r (version, (tunnel, (encrypt, (key, (source, (desti
       packet = packet;
       address = address;
       exchange = exchange;
-      check = sized;
+      check = checked;
       short = ltb-false _ _ long;
       room = ltb-false _ _ lack;
     }
+
+length-clear : (m : Message) (payload check : List ℕ) (room : ℕ) → noneOf (writingOrder m payload check room) → wrongLength m payload ≡ false
+unfolding writingOrder
+length-clear m payload check room (_, (_, (_, (_, (_, (_, (_, (_, (_, (sized, _)))))))))) = sized
 
 writing-numbered : (m : Message) (payload check : List ℕ) (room : ℕ) → numbered (writingOrder m payload check room) ≡ true
 unfolding writingOrder
@@ -79,3 +84,6 @@ pub written : (m : Message) (payload check : List ℕ) (room n : ℕ) → writeO
 unfolding writeOf
 written m payload check room n e =
     (written-of (first (writingOrder m payload check room)) (total m payload) n e .1, write-clear m payload check room (written-legal m payload check room n e))
+
+pub written-sized : (m : Message) (payload check : List ℕ) (room n : ℕ) → writeOf m payload check room ≡ Written n → wrongLength m payload ≡ false
+written-sized m payload check room n e = length-clear m payload check room (written-legal m payload check room n e)

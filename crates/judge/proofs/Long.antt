@@ -29,5 +29,5 @@ room-left m payload {h} {c} (eh, lh) (ec, lc) = go (ltb (longest - h - c) (lengt
 pub payload-short : (m : Message) (payload check : List ℕ) → first (partsOrder m payload check) ≡ 0 → length payload ≤ longest
 unfolding partsOrder
 payload-short m payload check e =
-    let short : total m payload ≤ longest = ltb-false _ _ (none-first (partsOrder m payload check) (parts-numbered m payload check) e .1 .1 .1 .0) in
+    let short : total m payload ≤ longest = ltb-false _ _ (none-first (partsOrder m payload check) (parts-numbered m payload check) e .1 .1 .1 .1 .0) in
     omega (arith, total-is m payload)

@@ -5,7 +5,7 @@ ghost use Prim.Native.Nat.{_≤_};
 ghost use lib.ListN.{length};
 ghost use Rattle.message.specs.Order.{first};
 ghost use Rattle.message.specs.Layout.{longest};
-ghost use Rattle.message.specs.Refusals.{tooLong, emptyPacket, wrongPacket, strayAddress, strayExchange, stray, total};
+ghost use Rattle.message.specs.Refusals.{tooLong, emptyPacket, wrongPacket, wrongLength, strayAddress, strayExchange, stray, total};
 ghost use Rattle.judge.specs.Writing.{writeOf};
 ghost use Rattle.judge.specs.Steps.{valueOrder, partsOrder};
 use message::Message;
@@ -48,6 +48,16 @@ fn wrong_packet(m: Message, payload: &[u8]) -> bool
     ensures { λ r. ⌜ r ≡ wrongPacket m (now (payload .entry)) ⌝ }
 {
     m.tunnelled & conditions::bad_packet(wire::get8(payload))
+}
+
+// A packet is wanted and it has not the length that its header gives.
+fn wrong_length(m: Message, payload: &[u8]) -> bool
+    ensures { λ r. ⌜ r ≡ wrongLength m (now (payload .entry)) ⌝ }
+{
+    if !m.tunnelled {
+        return false;
+    }
+    conditions::bad_length(payload)
 }
 
 // An absent address field is not zero.
@@ -104,6 +114,9 @@ fn parts_refusal(m: Message, payload: &[u8], check: &[u8]) -> u8
     }
     if wrong_packet(m, payload) {
         return Refusal::PACKET;
+    }
+    if wrong_length(m, payload) {
+        return Refusal::PACKET_LENGTH;
     }
     if is_stray(m, check) {
         return Refusal::STRAY;

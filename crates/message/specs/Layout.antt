@@ -1,7 +1,9 @@
 -- Where the fields of a message stand, and how long it is ("Bytes of a message"). Assumes nothing.
-use Prim.Native.Nat.{ℕ, _+_}
+use Prim.Native.Nat.{ℕ, _+_, _-_}
 use mathlib.Core.Bool.{Bool, true, false, cond}
+use mathlib.Core.List.{List}
 use lib.Dec.{eqb}
+use lib.ListN.{length, take, drop}
 use Rattle.message.specs.declared.value.Message.{Message}
 
 -- n where the field is present, else 0: an absent field takes no bytes
@@ -47,3 +49,7 @@ headLength m = bodyOf m + cond (m .tunnelled) 1 (1 + 1 + 2 + 4 + only (m .acknow
 -- the fixed part: of a tunnelled message the version and one byte of the packet; the check bytes belong to it
 abbrev pub fixedLength : Message → ℕ
 fixedLength m = bodyOf m + cond (m .tunnelled) (1 + 1) (1 + 1 + 2 + 4) + checkLength m
+
+-- the bytes of a message from a place on, up to its check: there the payload stands, or the packet
+abbrev pub upToCheck : Message → ℕ → List ℕ → List ℕ
+upToCheck m at bytes = take (length bytes - checkLength m - at) (drop at bytes)

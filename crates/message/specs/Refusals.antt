@@ -1,9 +1,10 @@
 -- The conditions of the refusals, one by one ("Refusal numbers"). Most serve reading and writing alike. Assumes nothing.
 use Prim.Native.Nat.{ℕ, _+_, _-_, _^_}
-use mathlib.Core.Bool.{Bool, not, _&&_, _||_}
+use mathlib.Core.Bool.{Bool, not, _&&_, _||_, cond}
 use mathlib.Core.List.{List, [], _∷_}
 use lib.Dec.{eqb, ltb}
 use lib.ListN.{length, getD}
+use Rattle.wire.specs.Bytes.{part, big}
 use Rattle.message.specs.Order.{Condition, _when_}
 use Rattle.message.specs.Layout.{longest, encrypted, checkLength, headLength, fixedLength}
 use Rattle.message.specs.Value.{bits, bit}
@@ -65,16 +66,27 @@ badTunnel version = not (eqb version 1)
 abbrev pub badPacket : ℕ → Bool
 badPacket b = not (eqb (bits b 4 4) 4 || eqb (bits b 4 4) 6)
 
+-- a packet that is shorter than its header, or not as long as this says: the number in two bytes at a place, high byte first, plus what it does not count
+abbrev pub otherLength : ℕ → ℕ → ℕ → List ℕ → Bool
+otherLength header at uncounted packet = ltb (length packet) header || not (eqb (big (part packet at 2) + uncounted) (length packet))
+
+-- 27, of a packet that 13 lets pass: IPv4 counts all of it, in bytes 2 and 3; IPv6 what follows its header of 40, in bytes 4 and 5
+unfoldable pub badLength : List ℕ → Bool
+badLength packet = cond (eqb (bits (getD packet 0 0) 4 4) 4) (otherLength 20 2 0 packet) (otherLength 40 4 40 packet)
+
 -- 2, reading: A without room for its four bytes before the check
 abbrev pub noRoom : ℕ → Message → Bool
 noRoom n m = (m .acknowledges) && ltb n (fixedLength m + 4)
 
--- 2 and 13, writing: the packet of a tunnelled message
+-- 2, 13 and 27, writing: the packet of a tunnelled message
 abbrev pub emptyPacket : Message → List ℕ → Bool
 emptyPacket m payload = (m .tunnelled) && eqb (length payload) 0
 
 abbrev pub wrongPacket : Message → List ℕ → Bool
 wrongPacket m payload = (m .tunnelled) && badPacket (getD payload 0 0)
+
+abbrev pub wrongLength : Message → List ℕ → Bool
+wrongLength m payload = (m .tunnelled) && badLength payload
 
 -- 14: a field that is absent and not zero
 abbrev pub strayAddress : Message → Bool

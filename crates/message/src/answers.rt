@@ -63,6 +63,8 @@ impl Refusal {
     pub const SAVED_ROW: u8 = 25;
     // Saved rows: a name twice.
     pub const SAVED_TWICE: u8 = 26;
+    // A packet that is shorter than its own header, or of another length than that gives.
+    pub const PACKET_LENGTH: u8 = 27;
 }
 
 // What stands before the payload or the packet, beside the fields: the bits I, A and R as the wire has

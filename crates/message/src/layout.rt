@@ -103,6 +103,22 @@ pub const IPV4: u8 = 4;
 
 pub const IPV6: u8 = 6;
 
+// A packet's header: how long it is at least, where its length field stands, and what this does not
+// count. The field has two bytes.
+pub const IPV4_HEADER: usize = 20;
+
+pub const IPV4_LENGTH_AT: usize = 2;
+
+pub const IPV4_UNCOUNTED: usize = 0;
+
+pub const IPV6_HEADER: usize = 40;
+
+pub const IPV6_LENGTH_AT: usize = 4;
+
+pub const IPV6_UNCOUNTED: usize = IPV6_HEADER;
+
+pub const LENGTH_FIELD: usize = 2;
+
 // The nodes that are nobody's.
 pub const NODE_NONE: u64 = 0;
 

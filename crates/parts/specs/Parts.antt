@@ -4,8 +4,8 @@ use Prim.Native.Nat.{ℕ, _+_, _-_}
 use mathlib.Core.Bool.{Bool, cond}
 use mathlib.Core.List.{List, []}
 use lib.Dec.{leb}
-use lib.ListN.{length, take, drop}
-use Rattle.message.specs.Layout.{checkLength}
+use lib.ListN.{length, drop}
+use Rattle.message.specs.Layout.{checkLength, upToCheck}
 use Rattle.message.specs.declared.answers.Reading.{Reading}
 use Rattle.message.specs.declared.answers.Reading.the-variants.{Taken, Refused}
 
@@ -14,7 +14,7 @@ partOf there bytes = cond there bytes []
 
 unfoldable pub payloadOf : List ℕ → Reading → List ℕ
 payloadOf bytes (Taken m h) =
-    partOf (leb (h .length + checkLength m) (length bytes)) (take (length bytes - checkLength m - h .length) (drop (h .length) bytes))
+    partOf (leb (h .length + checkLength m) (length bytes)) (upToCheck m (h .length) bytes)
 payloadOf bytes (Refused r) = []
 
 unfoldable pub checkOf : List ℕ → Reading → List ℕ

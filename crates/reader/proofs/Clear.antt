@@ -8,9 +8,9 @@ use borrow.Author.Tests.{ltb-false, eqb-true, not-false}
 use lib.Dec.{eqb, ltb}
 use lib.ListN.{length, getD}
 use Rattle.message.specs.Order.{Condition, condition, firstRefusal, noneOf}
-use Rattle.message.specs.Layout.{only, bodyOf, checkLength, headLength}
+use Rattle.message.specs.Layout.{only, bodyOf, checkLength, headLength, upToCheck}
 use Rattle.message.specs.Value.{exchangeHeader, messageOf}
-use Rattle.message.specs.Refusals.{badExchange, oldAsks, badPacket, noRoom}
+use Rattle.message.specs.Refusals.{badExchange, oldAsks, badPacket, badLength, noRoom}
 use Rattle.message.specs.Answers.{headOf, asTaken, reading}
 use Rattle.reader.specs.Reading.{exchangeOrder, tunnelOrder, bodyOrder, readingOrder, readOf}
 use Rattle.message.specs.declared.value.Message.{Message}
@@ -29,6 +29,7 @@ pub record ClearExchange (bytes : List ℕ) (m : Message) : Type 0 where
 pub record ClearTunnel (bytes : List ℕ) (m : Message) : Type 0 where
   pub version : getD bytes (bodyOf m) 0 ≡ 1
   pub packet : badPacket (getD bytes (bodyOf m + 1) 0) ≡ false
+  pub sized : badLength (upToCheck m (bodyOf m + 1) bytes) ≡ false
 
 pub record Clear (bytes : List ℕ) (m : Message) : Type 0 where
   pub outer : ClearOuter bytes m
@@ -41,7 +42,7 @@ exchange-clear bytes m h = record { exchange = h .0; asks = h .1 .0; room = h .1
 
 tunnel-clear : (bytes : List ℕ) (m : Message) → noneOf (tunnelOrder bytes m) → ClearTunnel bytes m
 unfolding tunnelOrder
-tunnel-clear bytes m h = record { version = eqb-true _ _ (not-false _ (h .0)); packet = h .1 .0 }
+tunnel-clear bytes m h = record { version = eqb-true _ _ (not-false _ (h .0)); packet = h .1 .0; sized = h .1 .1 .0 }
 
 -- where none of two orders' conditions holds, none of either's does
 pub none-left : (a b : List Condition) → noneOf (a ++ b) → noneOf a

@@ -1,23 +1,27 @@
 -- Reading after outer reading: what its answer is, and which bytes are there. Assumes nothing.
 use Prim.Native.Nat.{ℕ, _+_, _≤_}
 use mathlib.Core.Path.{_≡_, refl, sym, ap, ap₂, subst, _∙_}
-use mathlib.Core.Bool.{Bool, true, false, not, cond}
+use mathlib.Core.Bool.{Bool, true, false, not, _||_, cond}
 use mathlib.Core.List.{List}
 use native.Mathlib.Omega.{arith}
+use borrow.Author.Tests.{eqb-true, not-false}
+use lib.Dec.{eqb}
 use lib.ListN.{length}
 use Rattle.wire.specs.Bytes.{part, little}
 use Rattle.message.specs.Order.{firstRefusal}
-use Rattle.message.specs.Layout.{only, bodyOf, checkLength}
+use Rattle.message.specs.Layout.{only, checkBytes, bodyOf, checkLength}
 use Rattle.message.specs.Value.{bit, header, bodyBy, exchangeHeader, addressOf, exchangedBy, messageOf}
+use Rattle.message.specs.Refusals.{badEncrypt}
 use Rattle.message.specs.Answers.{asTaken, reading}
 use Rattle.message.specs.declared.value.Message.{Message}
 use Rattle.message.specs.declared.answers.Refusal.{Refusal}
 use Rattle.message.specs.declared.answers.Reading.the-variants as Reading
-use Rattle.message.proofs.Order.{there-is, numberOf, first-pass, first-hit}
+use Rattle.message.proofs.Order.{there-is, numberOf, none-first, first-pass, first-hit}
 use Rattle.outer.specs.Outer.{outerOrder}
 use Rattle.outer.specs.Steps.{fixedAt, begunOf}
 use Rattle.outer.specs.declared.outer.Begun.the-variants.{Address, Refused}
 use Rattle.outer.proofs.Begun.{refused-first, outer-numbered, outer-fixed}
+use Rattle.outer.proofs.Clear.{outer-clear}
 use Rattle.outer.proofs.Answers.{outer-none, outer-given, outer-body}
 use Rattle.reader.specs.Reading.{exchangeOrder, tunnelOrder, bodyOrder, readingOrder, readOf}
 use Rattle.reader.specs.Steps.{exchanged, noExchange, withFields, exchangeOf, tunnelOf}
@@ -37,6 +41,14 @@ read-refused bytes r e =
     ∙ reading-hit r (messageOf bytes) (p .1)
 
 -- ---- outer reading gave the value up to the key id
+
+-- an encrypt type that was let pass is 1 where it is not 0
+not-plain : (type n : ℕ) → badEncrypt type ≡ false → only (eqb type 1) n ≡ only (not (eqb type 0)) n
+not-plain type n e = go (eqb type 0) refl
+  where
+    go : (plain : Bool) → eqb type 0 ≡ plain → only (eqb type 1) n ≡ only (not plain) n
+    go true z = ap (λ (t : ℕ). only (eqb t 1) n) (eqb-true type 0 z)
+    go false z = ap (λ (b : Bool). only b n) (subst (λ (b : Bool). (b || eqb type 1) ≡ true) z (not-false _ e))
 
 module _ (bytes : List ℕ) (m : Message) (e : begunOf bytes ≡ Address m) where
   given : addressOf bytes (header bytes) ≡ m
@@ -59,19 +71,25 @@ module _ (bytes : List ℕ) (m : Message) (e : begunOf bytes ≡ Address m) wher
   unfolding addressOf withFields
   no-fields = subst (λ (v : Message). withFields v (noExchange 0) ≡ v) given refl
 
-  pub tunnel-room : m .tunnelled ≡ true → bodyOf m + 2 ≤ length bytes
-  tunnel-room t =
-      let f = fixed in
-      let b = body-is in
-      omega (arith, ap {B = ℕ} (λ (k : Bool). cond k 2 8) (sym kind ∙ t))
+  pub check-unless-plain : checkLength m ≡ only (not (eqb (m .encrypt) 0)) checkBytes
+  unfolding messageOf exchangedBy addressOf
+  check-unless-plain =
+      let clear = outer-clear bytes (messageOf bytes) (none-first (outerOrder bytes (messageOf bytes)) (outer-numbered bytes (messageOf bytes)) (outer-none bytes m e)) in
+      subst (λ (v : Message). checkLength v ≡ only (not (eqb (v .encrypt) 0)) checkBytes) given (not-plain (addressOf bytes (header bytes) .encrypt) checkBytes (clear .encrypt))
 
-  pub exchange-room : m .tunnelled ≡ false → bodyOf m + 8 + checkLength m ≤ length bytes
+  room : (tunnelled : Bool) → m .tunnelled ≡ tunnelled → bodyOf m + cond tunnelled 2 8 + checkLength m ≤ length bytes
   unfolding addressOf
-  exchange-room t =
+  room tunnelled t =
       let f = fixed in
       let b = body-is in
       let k = check-is in
       omega (arith, ap {B = ℕ} (λ (k : Bool). cond k 2 8) (sym kind ∙ t))
+
+  pub tunnel-room : m .tunnelled ≡ true → bodyOf m + 2 + checkLength m ≤ length bytes
+  tunnel-room = room true
+
+  pub exchange-room : m .tunnelled ≡ false → bodyOf m + 8 + checkLength m ≤ length bytes
+  exchange-room = room false
 
   to-body : readOf bytes ≡ reading (firstRefusal (bodyOrder bytes (messageOf bytes))) (messageOf bytes)
   unfolding readOf readingOrder

@@ -9,11 +9,12 @@ use lib.Dec.{ltb}
 use lib.ListN.{length, getD}
 use Rattle.wire.specs.Bytes.{part, little}
 use Rattle.message.specs.Order.{_when_, _at-byte_, firstRefusal}
-use Rattle.message.specs.Layout.{only, bodyOf, checkLength}
+use Rattle.message.specs.Layout.{only, bodyOf, checkLength, upToCheck}
 use Rattle.message.specs.Value.{bit, header, bodyBy, addressOf, exchangedBy, messageOf}
-use Rattle.message.specs.Refusals.{badExchange, oldAsks, badTunnel, badPacket, noRoom}
+use Rattle.message.specs.Refusals.{badExchange, oldAsks, badTunnel, badPacket, badLength, noRoom}
 use Rattle.message.specs.Answers.{asTaken, reading}
 use Rattle.message.specs.declared.value.Message.{Message}
+use Rattle.message.specs.declared.answers.Reading.{Reading}
 use Rattle.message.specs.declared.answers.Reading.the-variants.{Refused}
 use Rattle.reader.specs.Reading.{exchangeOrder, tunnelOrder}
 use Rattle.reader.specs.Steps.{exchanged, exchangeAt, fieldsOf, exchangeOf, tunnelOf}
@@ -36,22 +37,36 @@ pub exchange-at : (bytes : List ℕ) (at x kind exchange profile acknowledged n 
     → record { header = x; kind = kind; exchange = exchange; profile = profile; acknowledged = acknowledged; length = n } ≡ exchangeAt bytes at n
 exchange-at bytes at x kind exchange profile acknowledged n a b c d e = simp (e, ← a, b, c, d)
 
--- a tunnelled message, whose version stands at `at`: the version is refused, the packet is, neither is
+-- a tunnelled message, whose version stands at `at`: the version is refused, the packet is, its length is, none of them is
 module _ (bytes : List ℕ) (m : Message) (at : ℕ) (e : at ≡ bodyOf m) where
-  by-tunnel : (v p : Bool) → badTunnel (getD bytes at 0) ≡ v → badPacket (getD bytes (at + 1) 0) ≡ p → tunnelOf bytes m ≡ reading (firstRefusal (12 when v at-byte at ∷ 13 when p at-byte (at + 1) ∷ [])) m
-  unfolding tunnelOf tunnelOrder
-  by-tunnel v p f g =
-      ap (λ (i : ℕ). reading (firstRefusal (12 when badTunnel (getD bytes i 0) at-byte i ∷ 13 when badPacket (getD bytes (i + 1) 0) at-byte (i + 1) ∷ [])) m) (sym e)
-      ∙ ap₂ (λ (a b : Bool). reading (firstRefusal (12 when a at-byte at ∷ 13 when b at-byte (at + 1) ∷ [])) m) f g
+  -- the answer by the three conditions
+  by-three : ℕ → Bool → Bool → Bool → Reading
+  by-three at v p l = reading (firstRefusal (12 when v at-byte at ∷ 13 when p at-byte (at + 1) ∷ 27 when l at-byte (at + 1) ∷ [])) m
+
+  by-tunnel : (v p l : Bool) → badTunnel (getD bytes at 0) ≡ v → badPacket (getD bytes (at + 1) 0) ≡ p → badLength (upToCheck m (at + 1) bytes) ≡ l → tunnelOf bytes m ≡ by-three at v p l
+  unfolding tunnelOf tunnelOrder by-three
+  by-tunnel v p l f g h =
+      ap (λ (i : ℕ). by-three i (badTunnel (getD bytes i 0)) (badPacket (getD bytes (i + 1) 0)) (badLength (upToCheck m (i + 1) bytes))) (sym e)
+      ∙ ap₂ (λ (a b : Bool). by-three at a b (badLength (upToCheck m (at + 1) bytes))) f g
+      ∙ ap (by-three at v p) h
 
   pub tunnel-version : badTunnel (getD bytes at 0) ≡ true → tunnelOf bytes m ≡ Refused (record { number = 12; offset = at })
-  tunnel-version f = by-tunnel true _ f refl
+  unfolding by-three
+  tunnel-version f = by-tunnel true _ _ f refl refl
 
   pub tunnel-packet : badTunnel (getD bytes at 0) ≡ false → badPacket (getD bytes (at + 1) 0) ≡ true → tunnelOf bytes m ≡ Refused (record { number = 13; offset = at + 1 })
-  tunnel-packet f g = by-tunnel false true f g
+  unfolding by-three
+  tunnel-packet f g = by-tunnel false true _ f g refl
 
-  pub tunnel-whole : badTunnel (getD bytes at 0) ≡ false → badPacket (getD bytes (at + 1) 0) ≡ false → tunnelOf bytes m ≡ asTaken m
-  tunnel-whole f g = by-tunnel false false f g
+  pub tunnel-length : badTunnel (getD bytes at 0) ≡ false → badPacket (getD bytes (at + 1) 0) ≡ false → badLength (upToCheck m (at + 1) bytes) ≡ true
+      → tunnelOf bytes m ≡ Refused (record { number = 27; offset = at + 1 })
+  unfolding by-three
+  tunnel-length f g h = by-tunnel false false true f g h
+
+  pub tunnel-whole : badTunnel (getD bytes at 0) ≡ false → badPacket (getD bytes (at + 1) 0) ≡ false → badLength (upToCheck m (at + 1) bytes) ≡ false
+      → tunnelOf bytes m ≡ asTaken m
+  unfolding by-three
+  tunnel-whole f g h = by-tunnel false false false f g h
 
 -- a general one, whose exchange header is x: the header is refused, A or R is, what is left to decide is A's room
 module _ (bytes : List ℕ) (m : Message) (x : ℕ) (e : x ≡ little (part bytes (bodyOf m) 1)) where

@@ -1,10 +1,11 @@
 // Reading: outer reading, then what a general or a tunnelled message holds.
 ghost use mathlib.Core.Path.{_≡_};
 ghost use Prim.Native.Nat.{_+_, _≤_};
-ghost use mathlib.Core.Bool.{true, false};
+ghost use mathlib.Core.Bool.{true, false, not};
+ghost use lib.Dec.{eqb};
 ghost use lib.ListN.{length};
 ghost use Rattle.wire.specs.Bytes.{part, little};
-ghost use Rattle.message.specs.Layout.{only, bodyOf, checkLength};
+ghost use Rattle.message.specs.Layout.{only, checkBytes, bodyOf, checkLength};
 ghost use Rattle.message.specs.Value.{bit};
 ghost use Rattle.message.specs.Refusals.{badExchange};
 ghost use Rattle.reader.specs.Reading.{readOf};
@@ -102,17 +103,23 @@ fn read_exchange(bytes: &[u8], m: Message) -> Rest
     read_fields(m, bytes, at, x)
 }
 
-// Of a tunnelled message, from its value up to the key id: 12, 13. It has no exchange fields.
+// Of a tunnelled message, from its value up to the key id: 12, 13, 27. It has no exchange fields.
 fn read_tunnel(bytes: &[u8], m: Message) -> Rest
-    requires { ⌜ (m .tunnelled ≡ true) × (withFields m (noExchange 0) ≡ m) × (bodyOf m + 2 ≤ length (now bytes)) ⌝ }
+    requires { ⌜ (m .tunnelled ≡ true) × (withFields m (noExchange 0) ≡ m) × (checkLength m ≡ only (not (eqb (m .encrypt) 0)) checkBytes) × (bodyOf m + 2 + checkLength m ≤ length (now bytes)) ⌝ }
     ensures { λ r. ⌜ finished m r ≡ tunnelOf (now (bytes .entry)) m ⌝ }
 {
     let at = message::body_of(m);
     if bytes[at] != layout::TUNNEL_VERSION {
         return refused(Refusal::TUNNEL, at);
     }
-    if conditions::bad_packet(bytes[at + layout::PACKET_AT]) {
-        return refused(Refusal::PACKET, at + layout::PACKET_AT);
+    let start = at + layout::PACKET_AT;
+    if conditions::bad_packet(bytes[start]) {
+        return refused(Refusal::PACKET, start);
+    }
+    // As `check_length` says, by a question whose answer need not be kept: docs/DECISIONS.md, 106.
+    let end = bytes.len() - message::only_of(m.encrypt != layout::PLAIN, layout::CHECK);
+    if conditions::bad_length(&bytes[start..end]) {
+        return refused(Refusal::PACKET_LENGTH, start);
     }
     Rest::Fields(Exchange {
         header: 0,
@@ -120,7 +127,7 @@ fn read_tunnel(bytes: &[u8], m: Message) -> Rest
         exchange: 0,
         profile: 0,
         acknowledged: 0,
-        length: at + layout::PACKET_AT,
+        length: start,
     })
 }
 

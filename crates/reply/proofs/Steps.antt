@@ -17,7 +17,7 @@ use Rattle.reply.specs.Acknowledgement.{acknowledgementOf, zeros, blankC
 
 -- what can hold of an acknowledgement, and what cannot, which leaves the first number as it is
 same-first : (b₆ b₇ b₈ b₉ s l r : Bool) → s ≡ false → l ≡ false
-    → first (6 when b₆ ∷ 7 when b₇ ∷ 8 when b₈ ∷ 9 when b₉ ∷ 11 when false ∷ 2 when false ∷ 13 when false ∷ 14 when s ∷ 1 when l ∷ 19 when r ∷ [])
+    → first (6 when b₆ ∷ 7 when b₇ ∷ 8 when b₈ ∷ 9 when b₉ ∷ 11 when false ∷ 2 when false ∷ 13 when false ∷ 27 when false ∷ 14 when s ∷ 1 when l ∷ 19 when r ∷ [])
     ≡ first (6 when b₆ ∷ 7 when b₇ ∷ 8 when b₈ ∷ 9 when b₉ ∷ 19 when r ∷ [])
 same-first true b₇ b₈ b₉ s l r e f = refl
 same-first false true b₈ b₉ s l r e f = refl

@@ -62,19 +62,19 @@ first-byte [] = ap little (front-short 1 [] (omega arith))
 first-byte (b ∷ rest) = ap little (front-part 1 (b ∷ rest) (omega arith)) ∙ omega arith
 
 -- the same, high byte first: the number of the bytes in the other order
-pub got-node : {g r : ℕ} (bytes : List ℕ) → AllBytes bytes → g ≡ little (front 8 bytes) → r ≡ little (bigBytes 8 g) → r ≡ big (front 8 bytes)
-got-node {g} {r} bytes all e f =
-    f ∙ ap (λ (x : ℕ). little (bigBytes 8 x)) e ∙ by (leb 8 (length bytes)) refl
+pub got-big : {g r : ℕ} (w : ℕ) → little (bigBytes w 0) ≡ 0 → (bytes : List ℕ) → AllBytes bytes → g ≡ little (front w bytes) → r ≡ little (bigBytes w g) → r ≡ big (front w bytes)
+got-big {g} {r} w none bytes all e f =
+    f ∙ ap (λ (x : ℕ). little (bigBytes w x)) e ∙ by (leb w (length bytes)) refl
   where
-    short : length bytes < 8 → little (bigBytes 8 (little (front 8 bytes))) ≡ big (front 8 bytes)
-    short h = rw (front-short 8 bytes h)
+    short : length bytes < w → little (bigBytes w (little (front w bytes))) ≡ big (front w bytes)
+    short h = rw (front-short w bytes h) none
 
-    whole : 8 ≤ length bytes → little (bigBytes 8 (little (front 8 bytes))) ≡ big (front 8 bytes)
+    whole : w ≤ length bytes → little (bigBytes w (little (front w bytes))) ≡ big (front w bytes)
     whole h =
-        rw (front-whole 8 bytes h)
+        rw (front-whole w bytes h)
         (ap (λ (l : List ℕ). little (reverse l))
-        (ap (λ (n : ℕ). littleBytes n (little (take 8 bytes))) (sym (length-take-le 8 bytes h)) ∙ bytes-little (all-take 8 all)))
+        (ap (λ (n : ℕ). littleBytes n (little (take w bytes))) (sym (length-take-le w bytes h)) ∙ bytes-little (all-take w all)))
 
-    by : (t : Bool) → leb 8 (length bytes) ≡ t → little (bigBytes 8 (little (front 8 bytes))) ≡ big (front 8 bytes)
+    by : (t : Bool) → leb w (length bytes) ≡ t → little (bigBytes w (little (front w bytes))) ≡ big (front w bytes)
     by true e = whole (leb-true _ _ e)
     by false e = short (leb-false _ _ e)

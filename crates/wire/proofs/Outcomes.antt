@@ -16,6 +16,7 @@ use denote.Triple.Clauses.{AtExit}
 use Rattle.wire.proofs.One.{both}
 use Rattle.wire.proofs.get.get8 as get8
 use Rattle.wire.proofs.get.get16 as get16
+use Rattle.wire.proofs.get.get_big16 as getBig16
 use Rattle.wire.proofs.get.get32 as get32
 use Rattle.wire.proofs.get.get64 as get64
 use Rattle.wire.proofs.get.get_node as getNode
@@ -30,6 +31,11 @@ module _ {M : Type 1} (𝓤 : URA M) (H : Heap 𝓤) (A : Atoms 𝓤) (at-mem : 
       → let allows : ℕ → AtExit get16.ended κs → SProp 𝓤 = λ v e. get16.clauses 𝓤 H A at-mem run κs (bytes, tt) .ensures tt v e in
       ent 𝓤 (conj 𝓤 (allows r x) (allows s y)) (fact 𝓤 (r ≡ s))
   one-get16 κs bytes r s x y = both 𝓤 _ _ _ (λ e f. e ∙ sym f)
+
+  pub one-get-big16 : (κs : Lfts 1) (bytes : RefT (List ℕ)) (r s : ℕ) (x y : AtExit getBig16.ended κs)
+      → let allows : ℕ → AtExit getBig16.ended κs → SProp 𝓤 = λ v e. getBig16.clauses 𝓤 H A at-mem run κs (bytes, tt) .ensures tt v e in
+      ent 𝓤 (conj 𝓤 (allows r x) (allows s y)) (fact 𝓤 (r ≡ s))
+  one-get-big16 κs bytes r s x y = both 𝓤 _ _ _ (λ e f. e ∙ sym f)
 
   pub one-get32 : (κs : Lfts 1) (bytes : RefT (List ℕ)) (r s : ℕ) (x y : AtExit get32.ended κs)
       → let allows : ℕ → AtExit get32.ended κs → SProp 𝓤 = λ v e. get32.clauses 𝓤 H A at-mem run κs (bytes, tt) .ensures tt v e in

@@ -34,6 +34,14 @@ pub fn get16(bytes: &[u8]) -> u16
     byte(bytes, 0) as u16 + byte(bytes, 1) as u16 * 256
 }
 
+// The first two bytes, high byte first.
+pub fn get_big16(bytes: &[u8]) -> u16
+    ensures { λ r. ⌜ r ≡ big (front 2 (now (bytes .entry))) ⌝ }
+{
+    let turned = get16(bytes);
+    turned % 256 * 256 + turned / 256
+}
+
 // The first four bytes, low byte first.
 pub fn get32(bytes: &[u8]) -> u32
     ensures { λ r. ⌜ r ≡ little (front 4 (now (bytes .entry))) ⌝ }

@@ -1,11 +1,15 @@
 -- Each answer stands at the first condition that holds. Assumes nothing.
-use mathlib.Core.Path.{sym, ap, _∙_}
-use mathlib.Core.Bool.{not}
+use Prim.Native.Nat.{_+_}
+use mathlib.Core.Path.{_≡_, sym, ap, _∙_}
+use mathlib.Core.Bool.{false, not}
 use borrow.Author.Tests.{eq-eqb, ne-eqb}
+use lib.ListN.{getD}
+use Rattle.message.specs.Layout.{upToCheck}
+use Rattle.message.specs.Refusals.{badTunnel, badPacket, badLength}
 use Rattle.message.proofs.Logic.{so}
 use Rattle.reader.specs.Steps.{finished}
 use Rattle.reader.proofs.Flags.{tunnel-taken}
-use Rattle.reader.proofs.Steps.{tunnel-version, tunnel-packet, tunnel-whole}
+use Rattle.reader.proofs.Steps.{tunnel-version, tunnel-packet, tunnel-length, tunnel-whole}
 use borrow.Author.Needs.{needs}
 use Rattle.reader.proofs.reading.read_tunnel.Statement.{statement}
 use Rattle.reader.proofs.reading.read_tunnel.Tie as tie
@@ -22,12 +26,37 @@ returns-2 c =
     ap (finished (v .m)) (c .refused2 .ensures)
     ∙ sym (tunnel-packet (v .bytes .now) (v .m) _ (c .before .before .before .before .before .before .body-of .ensures .0) (ap not (eq-eqb _ _ (c .before .before .before .before .if1 .left))) (so (c .before .before .bad-packet .ensures) (c .before .if2 .taken)))
 
+-- neither the version nor the first byte of the packet is refused
+version : (c : tie.Else2) → badTunnel (getD (c .before .before .before .before .before .before .before .args .bytes .now) (c .before .before .before .before .before .body-of .result) 0) ≡ false
+version c = ap not (eq-eqb _ _ (c .before .before .before .if1 .left))
+
+packet : (c : tie.Else2) → badPacket (getD (c .before .before .before .before .before .before .before .args .bytes .now) (c .before .before .before .before .before .body-of .result + 1) 0) ≡ false
+packet c = so (c .before .bad-packet .ensures) (c .if2 .left)
+
+-- the packet that is judged ends where the check begins
+sized : (c : tie.After-bad-length)
+    → let s = c .before .before .before .before .before .before .before .before .before in
+    c .bad-length .result ≡ badLength (upToCheck (s .before .before .args .m) (s .body-of .result + 1) (s .before .before .args .bytes .now))
+sized c =
+    let pre = c .before .before .before .before .before .before .before .before .before .before .before .pre in
+    simp (c .bad-length .ensures, c .before .before .only-of .ensures .0, ← pre .2)
+
 returns-3 : tie.Need-returns-3
 returns-3 c =
-    let v = c .before .before .before .before .before .before .before .args in
-    let p = c .before .before .before .before .before .before .before .pre in
-    let b = c .before .before .before .before .before .body-of .ensures .0 in
-    tunnel-taken (v .m) _ (p .0) (p .1) b ∙ sym (tunnel-whole (v .bytes .now) (v .m) _ b (ap not (eq-eqb _ _ (c .before .before .before .if1 .left))) (so (c .before .bad-packet .ensures) (c .if2 .left)))
+    let e = c .before .before .before .before .before .before in
+    let b = e .before .before .before .before .before in
+    let v = b .before .before .args in
+    ap (finished (v .m)) (c .refused3 .ensures)
+    ∙ sym (tunnel-length (v .bytes .now) (v .m) _ (b .body-of .ensures .0) (version e) (packet e) (so (sized (c .before .before)) (c .before .if3 .taken)))
+
+returns-4 : tie.Need-returns-4
+returns-4 c =
+    let e = c .before .before .before .before .before in
+    let b = e .before .before .before .before .before in
+    let v = b .before .before .args in
+    let p = b .before .before .pre in
+    tunnel-taken (v .m) _ (p .0) (p .1) (b .body-of .ensures .0)
+    ∙ sym (tunnel-whole (v .bytes .now) (v .m) _ (b .body-of .ensures .0) (version e) (packet e) (so (sized (c .before)) (c .if3 .left)))
 
 pub read-tunnel-spec : {M : Type 1} → statement M
 read-tunnel-spec =
@@ -40,8 +69,14 @@ read-tunnel-spec =
     (λ c. search needs)
     (λ c. search needs)
     (λ c κs. search needs)
-    (λ c. search needs)
     (λ c κs. search needs)
     returns-2
+    (λ c κs. search needs)
     (λ c. search needs)
-    returns-3)
+    (λ c. search needs)
+    (λ c. search needs)
+    (λ c. search needs)
+    (λ c κs. search needs)
+    (λ c κs. search needs)
+    returns-3
+    returns-4)
