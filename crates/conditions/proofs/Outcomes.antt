@@ -24,7 +24,7 @@ use Rattle.conditions.proofs.address_refusal as address
 use Rattle.conditions.proofs.is_nobody as nobody
 use Rattle.conditions.proofs.old_asks as asks
 use Rattle.conditions.proofs.bad_packet as packet
-use Rattle.conditions.proofs.bad_length as length
+use Rattle.conditions.proofs.bad_packet_length as packetLength
 
 module _ {M : Type 1} (𝓤 : URA M) (H : Heap 𝓤) (A : Atoms 𝓤) (at-mem : Memory → SProp 𝓤) (run : Routine → Fun 𝓤) where
   pub one-bad-version : (number : ℕ) (r s : Bool)
@@ -67,7 +67,7 @@ module _ {M : Type 1} (𝓤 : URA M) (H : Heap 𝓤) (A : Atoms 𝓤) (at-mem : 
       ent 𝓤 (conj 𝓤 (allows r) (allows s)) (fact 𝓤 (r ≡ s))
   one-bad-packet b r s = both 𝓤 _ _ _ (λ e f. e ∙ sym f)
 
-  pub one-bad-length : (κs : Lfts 1) (packet : RefT (List ℕ)) (r s : Bool) (x y : AtExit length.ended κs)
-      → let allows : Bool → AtExit length.ended κs → SProp 𝓤 = λ v e. length.clauses 𝓤 H A at-mem run κs (packet, tt) .ensures tt v e in
+  pub one-bad-packet-length : (κs : Lfts 1) (packet : RefT (List ℕ)) (r s : Bool) (x y : AtExit packetLength.ended κs)
+      → let allows : Bool → AtExit packetLength.ended κs → SProp 𝓤 = λ v e. packetLength.clauses 𝓤 H A at-mem run κs (packet, tt) .ensures tt v e in
       ent 𝓤 (conj 𝓤 (allows r x) (allows s y)) (fact 𝓤 (r ≡ s))
-  one-bad-length κs packet r s x y = both 𝓤 _ _ _ (λ e f. e ∙ sym f)
+  one-bad-packet-length κs packet r s x y = both 𝓤 _ _ _ (λ e f. e ∙ sym f)

@@ -2,7 +2,7 @@
 ghost use mathlib.Core.Path.{_≡_};
 ghost use Prim.Native.Nat.{_+_, _≤_};
 ghost use Rattle.message.specs.Order.{first};
-ghost use Rattle.message.specs.Refusals.{badVersion, oldTunnel, badEncrypt, badKeyType, badKey, nobody, badSource, badDestination, oldAsks, badPacket, otherLength, badLength, addressOrder};
+ghost use Rattle.message.specs.Refusals.{badVersion, oldTunnel, badEncrypt, badKeyType, badKey, nobody, badSource, badDestination, oldAsks, badPacket, otherLength, badPacketLength, addressOrder};
 use message::Message;
 use message::Refusal;
 use message::layout;
@@ -109,8 +109,8 @@ fn has_other_length(packet: &[u8], header: usize, at: usize, uncounted: usize) -
 }
 
 // 27, of a packet that 13 lets pass. Any other counts as IPv6, and an empty one is too short.
-pub fn bad_length(packet: &[u8]) -> bool
-    ensures { λ r. ⌜ r ≡ badLength (now (packet .entry)) ⌝ }
+pub fn bad_packet_length(packet: &[u8]) -> bool
+    ensures { λ r. ⌜ r ≡ badPacketLength (now (packet .entry)) ⌝ }
 {
     if wire::get8(packet) / layout::FAMILY % 16 == layout::IPV4 {
         return has_other_length(

@@ -13,7 +13,7 @@ use Rattle.wire.specs.Bytes.{part, little, big}
 use Rattle.message.specs.Order.{first}
 use Rattle.message.specs.Layout.{only, bodyOf, headLength, checkLength, upToCheck, destinationAt, keyAt}
 use Rattle.message.specs.Value.{bits, bit, header, bodyBy, exchangeHeader, addressOf, exchangedBy, messageOf}
-use Rattle.message.specs.Refusals.{oldAsks, badPacket, badLength, strayAddress, strayExchange, stray, emptyPacket, wrongPacket, wrongLength, total}
+use Rattle.message.specs.Refusals.{oldAsks, badPacket, badPacketLength, strayAddress, strayExchange, stray, emptyPacket, wrongPacket, wrongPacketLength, total}
 use Rattle.message.specs.Answers.{writing}
 use Rattle.reader.specs.Reading.{readOf}
 use Rattle.parts.specs.Parts.{payloadOf, checkOf}
@@ -93,8 +93,8 @@ module _ (bs : List ℕ) (e : readOf bs ≡ asTaken (messageOf bs)) where
       let m = messageOf bs in
       parts.payload-is bs m e ∙ ap (λ (b : Bool). upToCheck m (bodyOf m + cond b 1 (8 + only (m .acknowledges) 4)) bs) t
 
-  sized : wrongLength (messageOf bs) (payloadOf bs (readOf bs)) ≡ false
-  sized = when-true _ _ (λ (t : messageOf bs .tunnelled ≡ true). ap badLength (packet-is t) ∙ k .tunnel t .sized)
+  sized : wrongPacketLength (messageOf bs) (payloadOf bs (readOf bs)) ≡ false
+  sized = when-true _ _ (λ (t : messageOf bs .tunnelled ≡ true). ap badPacketLength (packet-is t) ∙ k .tunnel t .sized)
 
   no-stray-address : strayAddress (messageOf bs) ≡ false
   unfolding messageOf exchangedBy addressOf

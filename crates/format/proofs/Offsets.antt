@@ -13,7 +13,7 @@ use Rattle.wire.specs.Bytes.{part, little, big}
 use Rattle.message.specs.Order.{Condition, condition, firstRefusal, first}
 use Rattle.message.specs.Layout.{only, longest, sourceAt, destinationAt, keyAt, encrypted, bodyOf, fixedLength, upToCheck}
 use Rattle.message.specs.Value.{bit, header, exchangeHeader, addressOf, exchangedBy, messageOf}
-use Rattle.message.specs.Refusals.{badVersion, reserved, oldTunnel, badEncrypt, badKeyType, badKey, nobody, badSource, badDestination, badExchange, oldAsks, badTunnel, badPacket, badLength, noRoom}
+use Rattle.message.specs.Refusals.{badVersion, reserved, oldTunnel, badEncrypt, badKeyType, badKey, nobody, badSource, badDestination, badExchange, oldAsks, badTunnel, badPacket, badPacketLength, noRoom}
 use Rattle.message.proofs.Logic.{and-true}
 use Rattle.outer.specs.Outer.{outerOrder}
 use Rattle.reader.specs.Reading.{exchangeOrder, tunnelOrder, bodyOrder, readingOrder}
@@ -62,7 +62,7 @@ pub data AtFault (bytes : List ℕ) : ℕ → ℕ → Type 0 where
   packet : messageOf bytes .tunnelled ≡ true → bodyIn bytes + 1 + 1 ≤ length bytes → badPacket (getD bytes (bodyIn bytes + 1) 0) ≡ true
       → AtFault bytes 13 (bodyIn bytes + 1)
   -- the first byte of one that is shorter than its own header, or of another length than that gives
-  packetLength : messageOf bytes .tunnelled ≡ true → bodyIn bytes + 1 + 1 ≤ length bytes → badLength (upToCheck (messageOf bytes) (bodyIn bytes + 1) bytes) ≡ true
+  packetLength : messageOf bytes .tunnelled ≡ true → bodyIn bytes + 1 + 1 ≤ length bytes → badPacketLength (upToCheck (messageOf bytes) (bodyIn bytes + 1) bytes) ≡ true
       → AtFault bytes 27 (bodyIn bytes + 1)
 
 -- ---- within the message

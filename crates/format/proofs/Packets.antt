@@ -12,7 +12,7 @@ use Rattle.wire.specs.Bytes.{part, big}
 use Rattle.message.specs.Order.{first}
 use Rattle.message.specs.Layout.{only, longest, bodyOf, headLength, checkLength, upToCheck}
 use Rattle.message.specs.Value.{bits, bytesOf}
-use Rattle.message.specs.Refusals.{badPacket, otherLength, badLength, emptyPacket, wrongPacket, wrongLength, total}
+use Rattle.message.specs.Refusals.{badPacket, otherLength, badPacketLength, emptyPacket, wrongPacket, wrongPacketLength, total}
 use Rattle.message.specs.Answers.{refusal, asTaken, writing}
 use Rattle.message.specs.declared.value.Message.{Message}
 use Rattle.message.specs.declared.answers.Reading.the-variants as Reading
@@ -55,8 +55,8 @@ given-is : (header at uncounted : ℕ) (packet : List ℕ) → header ≤ length
 given-is header at uncounted packet h e = ap₂ _||_ (le-ltb _ _ h) (ap not (eq-eqb _ _ e))
 
 -- exactly the whole packets pass both 13 and 27
-pub passed-is-whole : (packet : List ℕ) → badPacket (getD packet 0 0) ≡ false → badLength packet ≡ false → WholePacket packet
-unfolding badLength
+pub passed-is-whole : (packet : List ℕ) → badPacket (getD packet 0 0) ≡ false → badPacketLength packet ≡ false → WholePacket packet
+unfolding badPacketLength
 passed-is-whole packet f l = go (eqb (family packet) 4) refl l
   where
     go : (four : Bool) → eqb (family packet) 4 ≡ four → lengthBy four packet ≡ false → WholePacket packet
@@ -65,8 +65,8 @@ passed-is-whole packet f l = go (eqb (family packet) 4) refl l
         let (long, given) = as-given 40 4 40 packet l in
         ipv6 (eqb-true _ _ (subst (λ (b : Bool). (b || eqb (family packet) 6) ≡ true) e (not-false _ f))) long given
 
-pub whole-passes : (packet : List ℕ) → WholePacket packet → (badPacket (getD packet 0 0) ≡ false) × (badLength packet ≡ false)
-unfolding badLength
+pub whole-passes : (packet : List ℕ) → WholePacket packet → (badPacket (getD packet 0 0) ≡ false) × (badPacketLength packet ≡ false)
+unfolding badPacketLength
 whole-passes packet (ipv4 f h e) = (simp f, simp f (given-is 20 2 0 packet h (omega arith)))
 whole-passes packet (ipv6 f h e) = (simp f, simp f (given-is 40 4 40 packet h e))
 
@@ -119,8 +119,8 @@ module _ (p q : List ℕ) (agree : Agree p q) (differ : length p ≡ length q �
   other-of true = other-by 20 2 0 (omega arith)
   other-of false = other-by 40 4 40 (omega arith)
 
-  other-length : 0 < length q → badLength p ≡ false → badLength q ≡ true
-  unfolding badLength
+  other-length : 0 < length q → badPacketLength p ≡ false → badPacketLength q ≡ true
+  unfolding badPacketLength
   other-length some e =
       let four = eqb (family p) 4 in
       let same : eqb (family q) 4 ≡ four = ap (λ (b : ℕ). eqb (bits b 4 4) 4) (sym (agree 0 (there four e) some)) in
@@ -157,14 +157,14 @@ module _ (m : Message) (p q c : List ℕ) (room : ℕ) (z : Sized m) (t : m .tun
         room = omega arith;
       }
 
-  wrong : badLength q ≡ true → wrongLength m q ≡ true
+  wrong : badPacketLength q ≡ true → wrongPacketLength m q ≡ true
   wrong e = ap₂ _&&_ t e
 
-  first-is : badLength q ≡ true → (room : ℕ) → first (writingOrder m q c room) ≡ 27
+  first-is : badPacketLength q ≡ true → (room : ℕ) → first (writingOrder m q c room) ≡ 27
   unfolding writingOrder
   first-is e room = simp (k .version, k .tunnel, k .encrypt, k .key, k .source, k .destination, k .asks, empty, packet, wrong e)
 
-  refused : badLength q ≡ true → LengthRefused m q c
+  refused : badPacketLength q ≡ true → LengthRefused m q c
   unfolding writeOf
   refused e =
       record {

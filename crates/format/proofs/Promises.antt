@@ -18,7 +18,7 @@ use Rattle.wire.proofs.Digits.{AllBytes}
 use Rattle.message.specs.Order.{Condition, firstRefusal, first}
 use Rattle.message.specs.Layout.{only, checkBytes, bodyAt, encrypted, checkLength, headLength, fixedLength}
 use Rattle.message.specs.Value.{messageOf, bytesOf}
-use Rattle.message.specs.Refusals.{badPacket, badLength, strayAddress, strayExchange, total}
+use Rattle.message.specs.Refusals.{badPacket, badPacketLength, strayAddress, strayExchange, total}
 use Rattle.message.specs.Answers.{refusal, headOf, asTaken, reading, outerReading, writing, writingNumber, bufferAfter}
 use Rattle.message.specs.declared.value.Message.{Message}
 use Rattle.message.specs.declared.answers.Refusal.{Refusal}
@@ -224,10 +224,10 @@ written-then-read m payload check old n z e =
 -- ---- the packet of a tunnelled message
 
 -- Exactly the whole packets pass both 13 and 27: IPv4 or IPv6, with their header, and as long as this says.
-pub passes-when-whole : (packet : List ℕ) → WholePacket packet → (badPacket (getD packet 0 0) ≡ false) × (badLength packet ≡ false)
+pub passes-when-whole : (packet : List ℕ) → WholePacket packet → (badPacket (getD packet 0 0) ≡ false) × (badPacketLength packet ≡ false)
 passes-when-whole = whole-passes
 
-pub whole-when-passed : (packet : List ℕ) → badPacket (getD packet 0 0) ≡ false → badLength packet ≡ false → WholePacket packet
+pub whole-when-passed : (packet : List ℕ) → badPacket (getD packet 0 0) ≡ false → badPacketLength packet ≡ false → WholePacket packet
 whole-when-passed = passed-is-whole
 
 -- A tunnelled message that was taken has no byte after its packet: it is the head, the packet, as long as its own header says, and the check.

@@ -13,7 +13,7 @@ use Rattle.wire.specs.Bytes.{littleBytes}
 use Rattle.message.specs.Order.{Condition, _when_, _at-byte_, firstRefusal, first}
 use Rattle.message.specs.Layout.{only, bodyOf, headLength, checkLength, fixedLength, upToCheck}
 use Rattle.message.specs.Value.{exchangeHeader, addressBytes, exchangeBytes, headBytes, bytesOf}
-use Rattle.message.specs.Refusals.{badExchange, badLength, wrongLength, total}
+use Rattle.message.specs.Refusals.{badExchange, badPacketLength, wrongPacketLength, total}
 use Rattle.outer.specs.Outer.{outerOrder}
 use Rattle.reader.specs.Reading.{exchangeOrder, tunnelOrder, bodyOrder, readingOrder, readOf}
 use Rattle.parts.specs.Parts.{payloadOf, checkOf}
@@ -89,7 +89,7 @@ module _ (m : Message) (p c : List ℕ) (room : ℕ) (z : Sized m) (k : ClearWri
 
   -- what is left to decide is the length of the packet
   sizedOrder : List Condition
-  sizedOrder = 27 when wrongLength m p at-byte (bodyOf m + 1) ∷ []
+  sizedOrder = 27 when wrongPacketLength m p at-byte (bodyOf m + 1) ∷ []
 
   tunnel-sized : m .tunnelled ≡ true → firstRefusal (tunnelOrder (bytesOf m p c) m) ≡ firstRefusal sizedOrder
   unfolding tunnelOrder sizedOrder
@@ -105,7 +105,7 @@ module _ (m : Message) (p c : List ℕ) (room : ℕ) (z : Sized m) (k : ClearWri
   body-sized false t =
       ap (λ (b : Bool). firstRefusal (cond b (tunnelOrder (bytesOf m p c) m) (exchangeOrder (exchangeHeader (bytesOf m p c)) (length (bytesOf m p c)) m))) t
       ∙ exchange-none t
-      ∙ ap (λ (b : Bool). firstRefusal (27 when (b && badLength p) at-byte (bodyOf m + 1) ∷ [])) (sym t)
+      ∙ ap (λ (b : Bool). firstRefusal (27 when (b && badPacketLength p) at-byte (bodyOf m + 1) ∷ [])) (sym t)
 
   order-sized : firstRefusal (readingOrder (bytesOf m p c)) ≡ firstRefusal sizedOrder
   unfolding readingOrder
@@ -114,21 +114,21 @@ module _ (m : Message) (p c : List ℕ) (room : ℕ) (z : Sized m) (k : ClearWri
       ∙ first-pass (outerOrder (bytesOf m p c) m) (bodyOrder (bytesOf m p c) m) (outer-numbered (bytesOf m p c) m) outer-zero
       ∙ body-sized (m .tunnelled) refl
 
-  by-length : (l : Bool) → wrongLength m p ≡ l → readOf (bytesOf m p c) ≡ reading (firstRefusal (27 when l at-byte (bodyOf m + 1) ∷ [])) m
+  by-length : (l : Bool) → wrongPacketLength m p ≡ l → readOf (bytesOf m p c) ≡ reading (firstRefusal (27 when l at-byte (bodyOf m + 1) ∷ [])) m
   unfolding readOf sizedOrder
   by-length l e =
       ap₂ reading (order-sized ∙ ap (λ (b : Bool). firstRefusal (27 when b at-byte (bodyOf m + 1) ∷ [])) e) (message-is m p c room z k)
 
-  read-is : wrongLength m p ≡ false → readOf (bytesOf m p c) ≡ asTaken m
+  read-is : wrongPacketLength m p ≡ false → readOf (bytesOf m p c) ≡ asTaken m
   read-is = by-length false
 
-  pub read-refused : wrongLength m p ≡ true → readOf (bytesOf m p c) ≡ Refused (record { number = 27; offset = bodyOf m + 1 })
+  pub read-refused : wrongPacketLength m p ≡ true → readOf (bytesOf m p c) ≡ Refused (record { number = 27; offset = bodyOf m + 1 })
   read-refused = by-length true
 
-  payload-same : wrongLength m p ≡ false → payloadOf (bytesOf m p c) (readOf (bytesOf m p c)) ≡ p
+  payload-same : wrongPacketLength m p ≡ false → payloadOf (bytesOf m p c) (readOf (bytesOf m p c)) ≡ p
   payload-same e = parts.payload-is (bytesOf m p c) m (read-is e) ∙ between-is
 
-  check-same : wrongLength m p ≡ false → checkOf (bytesOf m p c) (readOf (bytesOf m p c)) ≡ c
+  check-same : wrongPacketLength m p ≡ false → checkOf (bytesOf m p c) (readOf (bytesOf m p c)) ≡ c
   unfolding bytesOf
   check-same e =
       let bs = bytesOf m p c in

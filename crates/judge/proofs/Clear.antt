@@ -10,7 +10,7 @@ use lib.Dec.{eqb}
 use lib.ListN.{length}
 use Rattle.message.specs.Order.{first, noneOf}
 use Rattle.message.specs.Layout.{checkLength}
-use Rattle.message.specs.Refusals.{badVersion, oldTunnel, badEncrypt, badKey, badSource, badDestination, oldAsks, emptyPacket, wrongPacket, wrongLength, strayAddress, strayExchange, stray, total}
+use Rattle.message.specs.Refusals.{badVersion, oldTunnel, badEncrypt, badKey, badSource, badDestination, oldAsks, emptyPacket, wrongPacket, wrongPacketLength, strayAddress, strayExchange, stray, total}
 use Rattle.message.specs.Answers.{writing}
 use Rattle.judge.specs.Writing.{writingOrder, writeOf}
 use Rattle.message.specs.declared.value.Message.{Message}
@@ -62,7 +62,7 @@ write-clear m payload check r (version, (tunnel, (encrypt, (key, (source, (desti
       room = ltb-false _ _ lack;
     }
 
-length-clear : (m : Message) (payload check : List ℕ) (room : ℕ) → noneOf (writingOrder m payload check room) → wrongLength m payload ≡ false
+length-clear : (m : Message) (payload check : List ℕ) (room : ℕ) → noneOf (writingOrder m payload check room) → wrongPacketLength m payload ≡ false
 unfolding writingOrder
 length-clear m payload check room (_, (_, (_, (_, (_, (_, (_, (_, (_, (sized, _)))))))))) = sized
 
@@ -85,5 +85,5 @@ unfolding writeOf
 written m payload check room n e =
     (written-of (first (writingOrder m payload check room)) (total m payload) n e .1, write-clear m payload check room (written-legal m payload check room n e))
 
-pub written-sized : (m : Message) (payload check : List ℕ) (room n : ℕ) → writeOf m payload check room ≡ Written n → wrongLength m payload ≡ false
+pub written-sized : (m : Message) (payload check : List ℕ) (room n : ℕ) → writeOf m payload check room ≡ Written n → wrongPacketLength m payload ≡ false
 written-sized m payload check room n e = length-clear m payload check room (written-legal m payload check room n e)

@@ -3,7 +3,7 @@ use Prim.Native.Nat.{ℕ}
 use mathlib.Core.List.{List, [], _∷_}
 use lib.Dec.{ltb}
 use Rattle.message.specs.Order.{Condition, _when_, first, noneOf}
-use Rattle.message.specs.Refusals.{tooLong, badVersion, oldTunnel, badEncrypt, badKey, badSource, badDestination, oldAsks, emptyPacket, wrongPacket, wrongLength, stray, total}
+use Rattle.message.specs.Refusals.{tooLong, badVersion, oldTunnel, badEncrypt, badKey, badSource, badDestination, oldAsks, emptyPacket, wrongPacket, wrongPacketLength, stray, total}
 use Rattle.message.specs.Answers.{writing}
 use Rattle.message.specs.declared.value.Message.{Message}
 use Rattle.message.specs.declared.answers.Writing.{Writing}
@@ -20,7 +20,7 @@ writingOrder m payload check room =
     ∷ 11 when oldAsks (m .version) (m .acknowledges) (m .wants)
     ∷ 2 when emptyPacket m payload
     ∷ 13 when wrongPacket m payload
-    ∷ 27 when wrongLength m payload
+    ∷ 27 when wrongPacketLength m payload
     ∷ 14 when stray m check
     ∷ 1 when tooLong (total m payload)
     ∷ 19 when ltb room (total m payload)

@@ -5,7 +5,7 @@ ghost use Prim.Native.Nat.{_≤_};
 ghost use lib.ListN.{length};
 ghost use Rattle.message.specs.Order.{first};
 ghost use Rattle.message.specs.Layout.{longest};
-ghost use Rattle.message.specs.Refusals.{tooLong, emptyPacket, wrongPacket, wrongLength, strayAddress, strayExchange, stray, total};
+ghost use Rattle.message.specs.Refusals.{tooLong, emptyPacket, wrongPacket, wrongPacketLength, strayAddress, strayExchange, stray, total};
 ghost use Rattle.judge.specs.Writing.{writeOf};
 ghost use Rattle.judge.specs.Steps.{valueOrder, partsOrder};
 use message::Message;
@@ -51,13 +51,13 @@ fn wrong_packet(m: Message, payload: &[u8]) -> bool
 }
 
 // A packet is wanted and it has not the length that its header gives.
-fn wrong_length(m: Message, payload: &[u8]) -> bool
-    ensures { λ r. ⌜ r ≡ wrongLength m (now (payload .entry)) ⌝ }
+fn wrong_packet_length(m: Message, payload: &[u8]) -> bool
+    ensures { λ r. ⌜ r ≡ wrongPacketLength m (now (payload .entry)) ⌝ }
 {
     if !m.tunnelled {
         return false;
     }
-    conditions::bad_length(payload)
+    conditions::bad_packet_length(payload)
 }
 
 // An absent address field is not zero.
@@ -115,7 +115,7 @@ fn parts_refusal(m: Message, payload: &[u8], check: &[u8]) -> u8
     if wrong_packet(m, payload) {
         return Refusal::PACKET;
     }
-    if wrong_length(m, payload) {
+    if wrong_packet_length(m, payload) {
         return Refusal::PACKET_LENGTH;
     }
     if is_stray(m, check) {

@@ -71,8 +71,8 @@ abbrev pub otherLength : ℕ → ℕ → ℕ → List ℕ → Bool
 otherLength header at uncounted packet = ltb (length packet) header || not (eqb (big (part packet at 2) + uncounted) (length packet))
 
 -- 27, of a packet that 13 lets pass: IPv4 counts all of it, in bytes 2 and 3; IPv6 what follows its header of 40, in bytes 4 and 5
-unfoldable pub badLength : List ℕ → Bool
-badLength packet = cond (eqb (bits (getD packet 0 0) 4 4) 4) (otherLength 20 2 0 packet) (otherLength 40 4 40 packet)
+unfoldable pub badPacketLength : List ℕ → Bool
+badPacketLength packet = cond (eqb (bits (getD packet 0 0) 4 4) 4) (otherLength 20 2 0 packet) (otherLength 40 4 40 packet)
 
 -- 2, reading: A without room for its four bytes before the check
 abbrev pub noRoom : ℕ → Message → Bool
@@ -85,8 +85,8 @@ emptyPacket m payload = (m .tunnelled) && eqb (length payload) 0
 abbrev pub wrongPacket : Message → List ℕ → Bool
 wrongPacket m payload = (m .tunnelled) && badPacket (getD payload 0 0)
 
-abbrev pub wrongLength : Message → List ℕ → Bool
-wrongLength m payload = (m .tunnelled) && badLength payload
+abbrev pub wrongPacketLength : Message → List ℕ → Bool
+wrongPacketLength m payload = (m .tunnelled) && badPacketLength payload
 
 -- 14: a field that is absent and not zero
 abbrev pub strayAddress : Message → Bool

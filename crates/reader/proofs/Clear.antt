@@ -10,7 +10,7 @@ use lib.ListN.{length, getD}
 use Rattle.message.specs.Order.{Condition, condition, firstRefusal, noneOf}
 use Rattle.message.specs.Layout.{only, bodyOf, checkLength, headLength, upToCheck}
 use Rattle.message.specs.Value.{exchangeHeader, messageOf}
-use Rattle.message.specs.Refusals.{badExchange, oldAsks, badPacket, badLength, noRoom}
+use Rattle.message.specs.Refusals.{badExchange, oldAsks, badPacket, badPacketLength, noRoom}
 use Rattle.message.specs.Answers.{headOf, asTaken, reading}
 use Rattle.reader.specs.Reading.{exchangeOrder, tunnelOrder, bodyOrder, readingOrder, readOf}
 use Rattle.message.specs.declared.value.Message.{Message}
@@ -29,7 +29,7 @@ pub record ClearExchange (bytes : List ℕ) (m : Message) : Type 0 where
 pub record ClearTunnel (bytes : List ℕ) (m : Message) : Type 0 where
   pub version : getD bytes (bodyOf m) 0 ≡ 1
   pub packet : badPacket (getD bytes (bodyOf m + 1) 0) ≡ false
-  pub sized : badLength (upToCheck m (bodyOf m + 1) bytes) ≡ false
+  pub sized : badPacketLength (upToCheck m (bodyOf m + 1) bytes) ≡ false
 
 pub record Clear (bytes : List ℕ) (m : Message) : Type 0 where
   pub outer : ClearOuter bytes m

@@ -11,7 +11,7 @@ use Rattle.wire.specs.Bytes.{part, little}
 use Rattle.message.specs.Order.{_when_, _at-byte_, firstRefusal}
 use Rattle.message.specs.Layout.{only, bodyOf, checkLength, upToCheck}
 use Rattle.message.specs.Value.{bit, header, bodyBy, addressOf, exchangedBy, messageOf}
-use Rattle.message.specs.Refusals.{badExchange, oldAsks, badTunnel, badPacket, badLength, noRoom}
+use Rattle.message.specs.Refusals.{badExchange, oldAsks, badTunnel, badPacket, badPacketLength, noRoom}
 use Rattle.message.specs.Answers.{asTaken, reading}
 use Rattle.message.specs.declared.value.Message.{Message}
 use Rattle.message.specs.declared.answers.Reading.{Reading}
@@ -43,11 +43,11 @@ module _ (bytes : List ℕ) (m : Message) (at : ℕ) (e : at ≡ bodyOf m) where
   by-three : ℕ → Bool → Bool → Bool → Reading
   by-three at v p l = reading (firstRefusal (12 when v at-byte at ∷ 13 when p at-byte (at + 1) ∷ 27 when l at-byte (at + 1) ∷ [])) m
 
-  by-tunnel : (v p l : Bool) → badTunnel (getD bytes at 0) ≡ v → badPacket (getD bytes (at + 1) 0) ≡ p → badLength (upToCheck m (at + 1) bytes) ≡ l → tunnelOf bytes m ≡ by-three at v p l
+  by-tunnel : (v p l : Bool) → badTunnel (getD bytes at 0) ≡ v → badPacket (getD bytes (at + 1) 0) ≡ p → badPacketLength (upToCheck m (at + 1) bytes) ≡ l → tunnelOf bytes m ≡ by-three at v p l
   unfolding tunnelOf tunnelOrder by-three
   by-tunnel v p l f g h =
-      ap (λ (i : ℕ). by-three i (badTunnel (getD bytes i 0)) (badPacket (getD bytes (i + 1) 0)) (badLength (upToCheck m (i + 1) bytes))) (sym e)
-      ∙ ap₂ (λ (a b : Bool). by-three at a b (badLength (upToCheck m (at + 1) bytes))) f g
+      ap (λ (i : ℕ). by-three i (badTunnel (getD bytes i 0)) (badPacket (getD bytes (i + 1) 0)) (badPacketLength (upToCheck m (i + 1) bytes))) (sym e)
+      ∙ ap₂ (λ (a b : Bool). by-three at a b (badPacketLength (upToCheck m (at + 1) bytes))) f g
       ∙ ap (by-three at v p) h
 
   pub tunnel-version : badTunnel (getD bytes at 0) ≡ true → tunnelOf bytes m ≡ Refused (record { number = 12; offset = at })
@@ -58,12 +58,12 @@ module _ (bytes : List ℕ) (m : Message) (at : ℕ) (e : at ≡ bodyOf m) where
   unfolding by-three
   tunnel-packet f g = by-tunnel false true _ f g refl
 
-  pub tunnel-length : badTunnel (getD bytes at 0) ≡ false → badPacket (getD bytes (at + 1) 0) ≡ false → badLength (upToCheck m (at + 1) bytes) ≡ true
+  pub tunnel-length : badTunnel (getD bytes at 0) ≡ false → badPacket (getD bytes (at + 1) 0) ≡ false → badPacketLength (upToCheck m (at + 1) bytes) ≡ true
       → tunnelOf bytes m ≡ Refused (record { number = 27; offset = at + 1 })
   unfolding by-three
   tunnel-length f g h = by-tunnel false false true f g h
 
-  pub tunnel-whole : badTunnel (getD bytes at 0) ≡ false → badPacket (getD bytes (at + 1) 0) ≡ false → badLength (upToCheck m (at + 1) bytes) ≡ false
+  pub tunnel-whole : badTunnel (getD bytes at 0) ≡ false → badPacket (getD bytes (at + 1) 0) ≡ false → badPacketLength (upToCheck m (at + 1) bytes) ≡ false
       → tunnelOf bytes m ≡ asTaken m
   unfolding by-three
   tunnel-whole f g h = by-tunnel false false false f g h

@@ -6,7 +6,7 @@ use lib.ListN.{length, getD}
 use Rattle.message.specs.Order.{Condition, _when_, _at-byte_, firstRefusal, noneOf}
 use Rattle.message.specs.Layout.{bodyOf, upToCheck}
 use Rattle.message.specs.Value.{exchangeHeader, messageOf}
-use Rattle.message.specs.Refusals.{badExchange, oldAsks, badTunnel, badPacket, badLength, noRoom}
+use Rattle.message.specs.Refusals.{badExchange, oldAsks, badTunnel, badPacket, badPacketLength, noRoom}
 use Rattle.message.specs.Answers.{reading}
 use Rattle.message.specs.declared.value.Message.{Message}
 use Rattle.message.specs.declared.answers.Reading.{Reading}
@@ -25,7 +25,7 @@ unfoldable pub tunnelOrder : List ℕ → Message → List Condition
 tunnelOrder bytes m =
     12 when badTunnel (getD bytes (bodyOf m) 0) at-byte bodyOf m
     ∷ 13 when badPacket (getD bytes (bodyOf m + 1) 0) at-byte (bodyOf m + 1)
-    ∷ 27 when badLength (upToCheck m (bodyOf m + 1) bytes) at-byte (bodyOf m + 1)
+    ∷ 27 when badPacketLength (upToCheck m (bodyOf m + 1) bytes) at-byte (bodyOf m + 1)
     ∷ []
 
 unfoldable pub bodyOrder : List ℕ → Message → List Condition

@@ -118,7 +118,7 @@ fn read_tunnel(bytes: &[u8], m: Message) -> Rest
     }
     // As `check_length` says, by a question whose answer need not be kept: docs/DECISIONS.md, 106.
     let end = bytes.len() - message::only_of(m.encrypt != layout::PLAIN, layout::CHECK);
-    if conditions::bad_length(&bytes[start..end]) {
+    if conditions::bad_packet_length(&bytes[start..end]) {
         return refused(Refusal::PACKET_LENGTH, start);
     }
     Rest::Fields(Exchange {

@@ -2,7 +2,7 @@
 use Prim.Native.Nat.{ℕ}
 use mathlib.Core.List.{List, _∷_}
 use Rattle.message.specs.Order.{Condition, _when_}
-use Rattle.message.specs.Refusals.{emptyPacket, wrongPacket, wrongLength, stray}
+use Rattle.message.specs.Refusals.{emptyPacket, wrongPacket, wrongPacketLength, stray}
 use Rattle.message.proofs.Logic.{so}
 use Rattle.judge.specs.Steps.{partsOrder}
 use Rattle.judge.proofs.First.{First, none, holds, passes, first-is}
@@ -32,7 +32,7 @@ returns-3 c =
     let a = e1 .before .before .before .before .args in
     first-is (partsOrder (a .m) (a .payload .now) (a .check .now))
     (passes (so (e1 .before .empty-packet .ensures) (e1 .if1 .left))
-    (passes (so (e2 .before .wrong-packet .ensures) (e2 .if2 .left)) (holds (so (c .before .wrong-length .ensures) (c .if3 .taken)))))
+    (passes (so (e2 .before .wrong-packet .ensures) (e2 .if2 .left)) (holds (so (c .before .wrong-packet-length .ensures) (c .if3 .taken)))))
 
 returns-4 : tie.Need-returns-4
 unfolding partsOrder
@@ -44,19 +44,19 @@ returns-4 c =
     first-is (partsOrder (a .m) (a .payload .now) (a .check .now))
     (passes (so (e1 .before .empty-packet .ensures) (e1 .if1 .left))
     (passes (so (e2 .before .wrong-packet .ensures) (e2 .if2 .left))
-    (passes (so (e3 .before .wrong-length .ensures) (e3 .if3 .left)) (holds (so (c .before .is-stray .ensures) (c .if4 .taken))))))
+    (passes (so (e3 .before .wrong-packet-length .ensures) (e3 .if3 .left)) (holds (so (c .before .is-stray .ensures) (c .if4 .taken))))))
 
 -- what was let pass where the length of the message is asked for
 past : {k : ℕ} {rest : List Condition} (c : tie.Else4) → First k rest
     → let a = c .before .before .before .before .before .before .before .before .before .before .args in
-    First k (2 when emptyPacket (a .m) (a .payload .now) ∷ 13 when wrongPacket (a .m) (a .payload .now) ∷ 27 when wrongLength (a .m) (a .payload .now) ∷ 14 when stray (a .m) (a .check .now) ∷ rest)
+    First k (2 when emptyPacket (a .m) (a .payload .now) ∷ 13 when wrongPacket (a .m) (a .payload .now) ∷ 27 when wrongPacketLength (a .m) (a .payload .now) ∷ 14 when stray (a .m) (a .check .now) ∷ rest)
 past c f =
     let e3 = c .before .before in
     let e2 = e3 .before .before in
     let e1 = e2 .before .before in
     passes (so (e1 .before .empty-packet .ensures) (e1 .if1 .left))
     (passes (so (e2 .before .wrong-packet .ensures) (e2 .if2 .left))
-    (passes (so (e3 .before .wrong-length .ensures) (e3 .if3 .left))
+    (passes (so (e3 .before .wrong-packet-length .ensures) (e3 .if3 .left))
     (passes (so (c .before .is-stray .ensures) (c .if4 .left)) f)))
 
 returns-5 : tie.Need-returns-5

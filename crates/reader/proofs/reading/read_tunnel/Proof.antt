@@ -5,7 +5,7 @@ use mathlib.Core.Bool.{false, not}
 use borrow.Author.Tests.{eq-eqb, ne-eqb}
 use lib.ListN.{getD}
 use Rattle.message.specs.Layout.{upToCheck}
-use Rattle.message.specs.Refusals.{badTunnel, badPacket, badLength}
+use Rattle.message.specs.Refusals.{badTunnel, badPacket, badPacketLength}
 use Rattle.message.proofs.Logic.{so}
 use Rattle.reader.specs.Steps.{finished}
 use Rattle.reader.proofs.Flags.{tunnel-taken}
@@ -34,12 +34,12 @@ packet : (c : tie.Else2) → badPacket (getD (c .before .before .before .before 
 packet c = so (c .before .bad-packet .ensures) (c .if2 .left)
 
 -- the packet that is judged ends where the check begins
-sized : (c : tie.After-bad-length)
+sized : (c : tie.After-bad-packet-length)
     → let s = c .before .before .before .before .before .before .before .before .before in
-    c .bad-length .result ≡ badLength (upToCheck (s .before .before .args .m) (s .body-of .result + 1) (s .before .before .args .bytes .now))
+    c .bad-packet-length .result ≡ badPacketLength (upToCheck (s .before .before .args .m) (s .body-of .result + 1) (s .before .before .args .bytes .now))
 sized c =
     let pre = c .before .before .before .before .before .before .before .before .before .before .before .pre in
-    simp (c .bad-length .ensures, c .before .before .only-of .ensures .0, ← pre .2)
+    simp (c .bad-packet-length .ensures, c .before .before .only-of .ensures .0, ← pre .2)
 
 returns-3 : tie.Need-returns-3
 returns-3 c =
