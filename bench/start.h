@@ -1,5 +1,4 @@
-/* What every program here starts from: no C library, x86-64 Linux. The program defines bench_begin, which is handed the stack as the
- * kernel made it: the count of the arguments, then the arguments. */
+/* What the programs that receive start from: the table, the buffer, and a receive through the adapter. */
 #include ADAPTER
 
 #define OWN 0x0200000000000001u
@@ -21,11 +20,4 @@ static inline void put_id(uint8_t *message, uint32_t id)
 		message[2 + i] = (uint8_t)(id >> 8 * i);
 }
 
-static inline _Noreturn void quit(long status)
-{
-	for (;;)
-		__asm__ volatile("syscall" :: "a"(60L), "D"(status) : "rcx", "r11", "memory");
-}
-
-__attribute__((force_align_arg_pointer, noreturn, used)) static void bench_begin(long *stack);
-__asm__(".globl _start\n_start:\n\txor %ebp,%ebp\n\tmov %rsp,%rdi\n\tcall bench_begin\n");
+#include "process.h"

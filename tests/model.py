@@ -5,6 +5,7 @@ programs to it. What an earlier stage of the rules came to, it can say too."""
 LONGEST = 1232
 ANY = 2 ** 64 - 1
 MARKS = 15
+BACK = 2 ** 31  # how far an encrypted row looks back
 ROWS = 32
 RECORD = 18
 SAVED = b'\x52\x57'
@@ -156,6 +157,17 @@ def frame(message, room):
     return len(message).to_bytes(2, 'little') + message
 
 
+# ---- the rule of positions, over how far it looks back and the number of marks
+
+def position(n, top, back):
+    """Where an arriving id stands once there is a greatest accepted position: the one place that equals it modulo 2^32, from `back` behind that on."""
+    return top - back + (n - (top - back)) % 2 ** 32
+
+
+def is_new(p, top, marks, accepted):
+    return p > top or top - marks <= p < top and p not in accepted
+
+
 # ---- rows: a name, the positions accepted so far in full, and the number that is shown for the marks
 
 class Row:
@@ -176,9 +188,8 @@ class Row:
             self.list = {n + 2 ** 32}
         else:
             top = max(self.list)
-            least = top - (2 ** 31 if self.key else MARKS)
-            p = least + (n - least) % 2 ** 32
-            if not (p > top or top - MARKS <= p < top and p not in self.list):
+            p = position(n, top, BACK if self.key else MARKS)
+            if not is_new(p, top, MARKS, self.list):
                 return False
             self.list.add(p)
         top = max(self.list)
@@ -262,6 +273,29 @@ def listing(data):
             said = str(r)
         lines.append('%d %s\n' % (len(lines) + 1, said))
         data = rest
+
+
+def verdicts(ids, marks):
+    """Whether each of the ids from one encrypted sender is new with so many marks, by all the positions that were accepted before it."""
+    accepted, top, out = set(), None, []
+    for n in ids:
+        p = n + 2 ** 32 if top is None else position(n, top, BACK)
+        new = top is None or is_new(p, top, marks, accepted)
+        if new:
+            accepted.add(p)
+            top = p if top is None else max(top, p)
+        out.append(new)
+    return out
+
+
+def trial(data):
+    """All numbers of marks from 1 to 63 are tried, and the least is the first whose verdicts are those of 63."""
+    if len(data) % 4 or len(data) > 65536:
+        return 'refused 28\n'
+    ids = [low(data[at:at + 4]) for at in range(0, len(data), 4)]
+    tried = {marks: verdicts(ids, marks) for marks in range(1, 64)}
+    counts = ['%d %d %d\n' % (marks, tried[marks].count(True), tried[marks].count(False)) for marks in (15, 31, 63)]
+    return ''.join(counts) + 'least %d\n' % min(marks for marks in tried if tried[marks] == tried[63])
 
 
 def text(data):

@@ -355,3 +355,26 @@ def stream(seed):
     if m.chance(0.5):
         data += m.random.randbytes(m.random.randrange(5))
     return data
+
+
+def secret(source, n, key=0x2001):
+    """An encrypted report to the gateway, opened, with two bytes of payload."""
+    v = dict(dict.fromkeys(model.FIELDS, 0), version=2, S=int(source != 0), D=1, encrypt=1, id=n, source=source, destination=OWN, key=key, I=1, R=1, type=2, exchange=0x0102)
+    return model.encode(v, b'\x02\x58', bytes(20))
+
+
+def hills():
+    """The capture hills.bin. The valve on the hill, 02..0f, sends 501 to 560 through a relay that hands some over late; two come twice. The valve in the valley,
+    02..0e, sends 71 to 85, all in order. A plain report is among them, and one without a source."""
+    ids = list(range(501, 561))
+    for first, last, after in ((506, 511, 527), (520, 523, 557), (548, 548, 551)):
+        late = range(first, last + 1)
+        ids = [n for n in ids if n not in late]
+        at = ids.index(after) + 1
+        ids[at:at] = late
+    for n in (530, 545):
+        ids.insert(ids.index(n) + 2, n)
+    out = [X, secret(0, 40)]
+    for k, n in enumerate(ids):
+        out += [secret(OWN + 14, n)] + ([secret(OWN + 13, 71 + k // 4)] if k % 4 == 0 and k < 60 else [])
+    return b''.join(two(len(data)) + data for data in out)

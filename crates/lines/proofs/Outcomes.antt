@@ -14,11 +14,13 @@ use contract.Monad.{Fun, conj, conj-mono, fact}
 use contract.Lifetimes.{Lfts}
 use denote.Ref.{RefT, now}
 use denote.Triple.Clauses.{AtExit}
-use Rattle.lines.specs.Lines.{lineText, lastText}
+use Rattle.lines.specs.Lines.{lineText, lastText, figuresText}
 use Rattle.lines.specs.declared.Said.{Said}
+use Rattle.lines.specs.declared.Figure.{Figure}
 use Rattle.wire.proofs.One.{both, two}
 use Rattle.lines.proofs.line as line
 use Rattle.lines.proofs.last as last
+use Rattle.lines.proofs.figures as figures
 
 -- a text at the front, and what was there after it
 same : {r s : ℕ} {new other : List ℕ} (old text : List ℕ) → (r ≡ length text) × (new ≡ text ++ drop r old) → (s ≡ length text) × (other ≡ text ++ drop s old)
@@ -39,3 +41,10 @@ module _ {M : Type 1} (𝓤 : URA M) (H : Heap 𝓤) (A : Atoms 𝓤) (at-mem : 
       ent 𝓤 (conj 𝓤 (allows r x) (allows s y)) (fact 𝓤 ((r ≡ s) × (now (x .1 .0) ≡ now (y .1 .0))))
   one-last κs left out r s x y =
       via 𝓤 _ (conj-mono 𝓤 (two 𝓤 _ _) (two 𝓤 _ _)) (both 𝓤 _ _ _ (λ e f. same (now out) (lastText left) (e .0) (f .0)))
+
+  -- `figures` makes one text, and leaves one buffer
+  pub one-figures : (κs : Lfts 1) (figure : Figure) (out : RefT (List ℕ)) (r s : ℕ) (x y : AtExit figures.ended κs)
+      → let allows : ℕ → AtExit figures.ended κs → SProp 𝓤 = λ v e. figures.clauses 𝓤 H A at-mem run κs (figure, (out, tt)) .ensures tt v e in
+      ent 𝓤 (conj 𝓤 (allows r x) (allows s y)) (fact 𝓤 ((r ≡ s) × (now (x .1 .0) ≡ now (y .1 .0))))
+  one-figures κs figure out r s x y =
+      via 𝓤 _ (conj-mono 𝓤 (two 𝓤 _ _) (two 𝓤 _ _)) (both 𝓤 _ _ _ (λ e f. same (now out) (figuresText figure) (e .0) (f .0)))

@@ -8,9 +8,11 @@ use lib.Seq.{sets, length-take-le}
 use Rattle.io.specs.Counts.{Counts}
 use Rattle.wire.proofs.Runs.{begun, onward, sets-front}
 use Rattle.lines.specs.Decimal.{decimalText}
-use Rattle.lines.specs.Lines.{newline, space, newWord, duplicateWord, refusedWord, endWord, closing, saidText, lineText, lastText}
+use Rattle.lines.specs.Lines.{newline, space, newWord, duplicateWord, refusedWord, endWord, leastWord, refusedOpening, closing, pairText, saidText, lineText, lastText, figuresText}
 use Rattle.lines.specs.declared.Said.{Said}
 use Rattle.lines.specs.declared.Said.the-variants.{New, Duplicate, Refused}
+use Rattle.lines.specs.declared.Figure.{Figure}
+use Rattle.lines.specs.declared.Figure.the-variants.{Marks, Least, Refused as Figure·Refused}
 use Rattle.lines.proofs.Decimals.{decimal-most}
 
 -- a text stored under another name
@@ -30,6 +32,20 @@ ended old word at n rest p q s =
     let y = onward rest (length rest) refl x s in
     (y .place, y .buffer)
 
+-- a number from the front on, and a text after it
+pub followed : {b new : List ℕ} {at r : ℕ} (old : List ℕ) (n : ℕ) (text : List ℕ)
+    → (at ≡ 0 + length (decimalText n)) × (b ≡ sets old 0 (decimalText n))
+    → (r ≡ at + length text) × (new ≡ sets b at text)
+    → (r ≡ 0 + length (decimalText n ++ text)) × (new ≡ sets old 0 (decimalText n ++ text))
+followed old n text p q =
+    let x = begun old 0 (decimalText n) (length (decimalText n)) refl p in
+    let y = onward text (length text) refl x q in
+    (y .place, y .buffer)
+
+-- how long a number and a text after it are at most
+followed-most : (n : ℕ) (text : List ℕ) → length (decimalText n ++ text) ≤ 20 + length text
+followed-most n text = let l = length-append (decimalText n) text in let m = decimal-most n in omega arith
+
 -- how long a word, a number and what ends the line are at most
 ended-most : (word : List ℕ) (n : ℕ) (rest : List ℕ) → length (word ++ decimalText n ++ rest) ≤ length word + 20 + length rest
 ended-most word n rest =
@@ -42,10 +58,20 @@ closing-most : (word : List ℕ) (n : ℕ) → length (closing word n) ≤ lengt
 unfolding closing
 closing-most word n = let m = ended-most word n newline in omega arith
 
+pair-most : (word : List ℕ) (first second : ℕ) → length (pairText word first second) ≤ length word + 42
+unfolding pairText
+pair-most word first second = let m = closing-most space second in let l = ended-most word first (closing space second) in omega arith
+
 said-most : (said : Said) → length (saidText said) ≤ 51
 said-most (New id) = let m = closing-most newWord id in omega arith
 said-most (Duplicate id) = let m = closing-most duplicateWord id in omega arith
-said-most (Refused number offset) = let m = closing-most space offset in let l = ended-most refusedWord number (closing space offset) in omega arith
+said-most (Refused number offset) = let m = pair-most refusedWord number offset in omega arith
+
+figures-most : (figure : Figure) → length (figuresText figure) ≤ 63
+unfolding figuresText
+figures-most (Marks held new duplicate) = let m = pair-most space new duplicate in let l = followed-most held (pairText space new duplicate) in omega arith
+figures-most (Least held) = let m = closing-most leastWord held in omega arith
+figures-most (Figure·Refused number) = let m = closing-most refusedOpening number in omega arith
 
 -- a text stored from the front on
 front-text : {new : List ℕ} {r : ℕ} (old text : List ℕ) → length text ≤ length old → (r ≡ 0 + length text) × (new ≡ sets old 0 text)
@@ -69,13 +95,16 @@ pub line-stored : {b new rest : List ℕ} {at r : ℕ} (old : List ℕ) (ordinal
     → (r ≡ length (lineText ordinal said)) × (new ≡ lineText ordinal said ++ drop r old)
 unfolding lineText
 line-stored {b} {at = at} old ordinal said h e p q =
-    let x = begun old 0 (decimalText ordinal) (length (decimalText ordinal)) refl p in
-    let s = stored b at (sym e) q in
-    let y = onward (saidText said) (length (saidText said)) refl x s in
     let m = said-most said in
-    let d = decimal-most ordinal in
-    let l = length-append (decimalText ordinal) (saidText said) in
-    front-text old (decimalText ordinal ++ saidText said) (omega arith) (y .place, y .buffer)
+    let l = followed-most ordinal (saidText said) in
+    front-text old (decimalText ordinal ++ saidText said) (omega arith) (followed old ordinal (saidText said) p (stored b at (sym e) q))
+
+-- a line of the trial
+pub figures-stored : {new text : List ℕ} {r : ℕ} (old : List ℕ) (figure : Figure) → 72 ≤ length old
+    → figuresText figure ≡ text
+    → (r ≡ 0 + length text) × (new ≡ sets old 0 text)
+    → (r ≡ length (figuresText figure)) × (new ≡ figuresText figure ++ drop r old)
+figures-stored old figure h e p = let m = figures-most figure in front-text old (figuresText figure) (omega arith) (stored old 0 (sym e) p)
 
 -- a text at the front of a buffer is counted by its length
 pub counted : {new : List ℕ} {r : ℕ} (old text : List ℕ) → (r ≡ length text) × (new ≡ text ++ drop r old)

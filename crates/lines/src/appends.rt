@@ -5,7 +5,7 @@ ghost use Prim.Native.Nat.{_+_, _≤_};
 ghost use lib.ListN.{length};
 ghost use lib.Seq.{sets};
 ghost use Rattle.lines.specs.Decimal.{decimalText};
-ghost use Rattle.lines.specs.Lines.{closing as Lines·closing};
+ghost use Rattle.lines.specs.Lines.{closing as Lines·closing, pairText};
 
 // The most digits that a u64 has.
 const DIGITS: usize = 20;
@@ -38,4 +38,14 @@ pub(crate) fn closing(out: &mut [u8], at: usize, word: &[u8], n: u64) -> usize
     let start = text(out, at, word);
     let end = number(out, start, n);
     text(out, end, b"\n")
+}
+
+// A word, a number, a space, another number and the end of the line.
+pub(crate) fn pair(out: &mut [u8], at: usize, word: &[u8], first: u64, second: u64) -> usize
+    requires { ⌜ at + length (now word) + 42 ≤ length (now out) ⌝ }
+    ensures { λ r. ⌜ (r ≡ at + length (pairText (now (word .entry)) first second)) × (now (out .exit) ≡ sets (now (out .entry)) at (pairText (now (word .entry)) first second)) ⌝ }
+{
+    let start = text(out, at, word);
+    let end = number(out, start, first);
+    closing(out, end, b" ", second)
 }

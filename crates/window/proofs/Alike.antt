@@ -8,8 +8,9 @@ use native.Mathlib.Omega.{arith}
 use native.Mathlib.Decide.{ℕ-discrete, decLt}
 use lib.Bits.{bitOr}
 use Rattle.window.proofs.Positions.{Fits}
-use Rattle.window.proofs.Marks.{Keeps, Outcome, Arrival, outcome-same, outcome-old, outcome-marked, outcome-filled, outcome-ahead}
+use Rattle.window.proofs.Marks.{Keeps, Outcome, Arrival, outcome-same, outcome-old, outcome-marked, outcome-filled, outcome-ahead, late-ahead, late-behind}
 use Rattle.window.specs.Rule.{greatest, bitAt, accepts, step, marksNumber}
+use Rattle.window.specs.Windows.{lateBy}
 
 module _ (B W : ℕ) (fits : Fits B W) (h m id : ℕ) (lh : h < 2 ^ 32) (li : id < 2 ^ 32) where
   Known : Type 0
@@ -55,3 +56,11 @@ module _ (B W : ℕ) (fits : Fits B W) (h m id : ℕ) (lh : h < 2 ^ 32) (li : id
         high = known .3 ps s .high ∙ sym (known .3 qs t .high);
         marks = known .3 ps s .marks ∙ sym (known .3 qs t .marks);
       }
+
+  -- and so does how far behind the greatest position it lies
+  pub late-agree : (ps qs : List ℕ) → Keeps W ps h m → Keeps W qs h m → lateBy B ps id ≡ lateBy B qs id
+  late-agree ps qs s t = go (decLt (d + B) (2 ^ 32))
+    where
+      go : Dec (d + B < 2 ^ 32) → lateBy B ps id ≡ lateBy B qs id
+      go (yes l) = late-ahead (arrives s) l ∙ sym (late-ahead (arrives t) l)
+      go (no l) = late-behind (arrives s) (omega arith) ∙ sym (late-behind (arrives t) (omega arith))

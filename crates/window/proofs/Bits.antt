@@ -1,4 +1,4 @@
--- The bits of a number: `number` and `bitAt` of specs/Rule.antt, and how shifts, `|` and `&` act on them. Assumes nothing.
+-- The bits of a number: `number` and `bitAt` of specs/Rule.antt, and how shifts and `|` act on them. Assumes nothing.
 use mathlib.Core.Path.{_≡_, refl, sym, ap, ap₂, _∙_}
 use mathlib.Core.Bool.{Bool, true, false, cond, _||_}
 use Prim.Native.Nat.{ℕ, zero, suc, _+_, _-_, _*_, _/_, _%_, _^_, _≤_, _<_}
@@ -6,8 +6,8 @@ use native.Mathlib.Nat.{mod-lt, mod-one, zero-div, zero-mod, mul-assoc, div-eq-o
 use native.Mathlib.Omega.{arith}
 use native.Mathlib.Decide.{decLt}
 use lib.Dec.{eqb}
-use lib.Bits.{bitOr, bitAnd, or-shr, or-mod, and-high, shifted-even}
-use lib.Pow.{pow-pos, pow-lt, pow-add, high, low, field, mod-pow-add, shr-shr, shl-shr, shl-exact, mod-mod-pow}
+use lib.Bits.{bitOr, or-shr, or-mod, shifted-even}
+use lib.Pow.{pow-lt, pow-add, high, low, field, mod-pow-add, shr-shr, shl-shr, shl-exact, mod-mod-pow}
 use Rattle.window.specs.Rule.{number, bitAt}
 
 -- equal bits, equal numbers
@@ -138,13 +138,42 @@ pub bit-none : (k : ℕ) → bitAt 0 k ≡ false
 unfolding bitAt
 bit-none k = ap (λ (x : ℕ). eqb (x % 2) 1) (zero-div (2 ^ k))
 
--- `&` with one bit
-pub and-bit : (m j : ℕ) → bitAnd m (2 ^ j) ≡ cond (bitAt m j) (2 ^ j) 0
+-- `>>` by one: each bit moves down
+bit-down : (y k : ℕ) → bitAt (y / 2 ^ 1) k ≡ bitAt y (suc k)
 unfolding bitAt
-and-bit m j =
-    ap (bitAnd m) (omega (arith, pow-add 2 1 j))
-    ∙ and-high m 1 j
-    ∙ sym (digit (m / 2 ^ j % 2) (2 ^ j) (mod-lt (m / 2 ^ j) (omega arith)))
+bit-down y k = ap (λ (x : ℕ). eqb (x % 2) 1) (shr-shr y 1 k ∙ ap (λ (i : ℕ). y / 2 ^ i) (omega arith))
+
+-- one bit below a number, all of it up in 64 bits and down by one: what is left of its low bits are those of `<<` and the old highest's bit
+pub moved-up : (n m c : ℕ) → n < 64 → bitOr (m * 2 ^ 1 % 2 ^ 64) 1 * 2 ^ suc c % 2 ^ 64 / 2 ^ 1 % 2 ^ n ≡ bitOr (m * 2 ^ suc c) (2 ^ c) % 2 ^ n
+moved-up n m c l =
+    sym (number-of n (x % 2 ^ 64 / 2 ^ 1) (bitAt y) (λ k h. bit-down (x % 2 ^ 64) k ∙ bit-mod x 64 (suc k) (omega arith) ∙ bits k (omega arith) (decLt k c)))
+    ∙ number-bits n y
+  where
+    low : ℕ
+    low = bitOr (m * 2 ^ 1 % 2 ^ 64) 1
+
+    x : ℕ
+    x = low * 2 ^ suc c
+
+    y : ℕ
+    y = bitOr (m * 2 ^ suc c) (2 ^ c)
+
+    bits : (k : ℕ) → k < 63 → Dec (k < c) → bitAt x (suc k) ≡ bitAt y k
+    bits k h (yes l) =
+        bit-under low (suc c) (suc k) (omega arith)
+        ∙ sym (bit-or (m * 2 ^ suc c) (2 ^ c) k
+        ∙ ap₂ (λ (a b : Bool). a || b) (bit-under m (suc c) k (omega arith)) (bit-other c k (λ e. omega arith)))
+    bits k h (no l) =
+        let j : ℕ = k - c in
+        let r : k ≡ c + j = omega arith in
+        let t : suc k ≡ suc c + j = omega arith in
+        let u : m * 2 ^ suc c ≡ m * 2 ^ 1 * 2 ^ c = ap (λ (a : ℕ). m * 2 ^ a) (omega arith) ∙ ap (λ (a : ℕ). m * a) (pow-add 2 1 c) ∙ sym (mul-assoc m (2 ^ 1) (2 ^ c)) in
+        ap (bitAt x) t ∙ bit-up low (suc c) j ∙ bit-or (m * 2 ^ 1 % 2 ^ 64) 1 j
+        ∙ ap (λ (a : Bool). a || bitAt 1 j) (bit-mod (m * 2 ^ 1) 64 j (omega arith))
+        ∙ sym (bit-or (m * 2 ^ suc c) (2 ^ c) k
+        ∙ ap₂ (λ (a b : Bool). a || b)
+        (ap₂ bitAt u r ∙ bit-up (m * 2 ^ 1) c j)
+        (ap₂ bitAt (sym (one-mul (2 ^ c))) r ∙ bit-up 1 c j))
 
 -- past the n marks, `<<` and the old highest's bit leave nothing
 pub moved-out : (n m d : ℕ) → n < d → bitOr (m * 2 ^ d) (2 ^ (d - 1)) % 2 ^ n ≡ 0
@@ -154,18 +183,3 @@ moved-out n m d l =
     ∙ ap₂ (λ (x y : Bool). x || y) (bit-under m d k (omega arith)) (bit-other (d - 1) k (λ e. omega arith))))
     ∙ number-of n 0 (λ k. false) (λ k h. bit-none k)
     ∙ zero-mod (2 ^ n)
-
--- a test of one bit
-pub and-set : (m j : ℕ) → (bitAnd m (2 ^ j) ≡ 0 → ⊥) → bitAt m j ≡ true
-and-set m j h = go (bitAt m j) refl
-  where
-    go : (b : Bool) → bitAt m j ≡ b → b ≡ true
-    go true e = refl
-    go false e = absurd (h (and-bit m j ∙ ap (λ (x : Bool). cond x (2 ^ j) 0) e))
-
-pub and-clear : (m j : ℕ) → bitAnd m (2 ^ j) ≡ 0 → bitAt m j ≡ false
-and-clear m j h = go (bitAt m j) refl
-  where
-    go : (b : Bool) → bitAt m j ≡ b → b ≡ false
-    go true e = absurd (omega (arith, pow-pos j, h, and-bit m j ∙ ap (λ (x : Bool). cond x (2 ^ j) 0) e))
-    go false e = refl

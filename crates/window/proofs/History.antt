@@ -1,40 +1,37 @@
 -- The history of one row, over B and W: a row that shows a list goes on showing it, and gives the verdicts that the rule gives on the full list.
 -- Assumes nothing.
 use mathlib.Core.Path.{_≡_, refl, sym, ap, _∙_, subst⁻¹}
-use mathlib.Core.Bool.{Bool, true, false, cond, true≢false}
+use mathlib.Core.Bool.{Bool, true, false, true≢false}
 use mathlib.Core.List.{List, [], _∷_}
 use Prim.Native.Nat.{ℕ, suc, _+_, _-_, _%_, _^_, _<_}
 use native.Mathlib.Nat.{mod-eq-of-lt, zero-mod}
 use native.Mathlib.Omega.{arith}
 use lib.Pow.{pow-pos}
 use Rattle.window.specs.Rule.{member, greatest, positionAfter, accepts, step, accepted, marksNumber}
-use Rattle.window.specs.Rows.{listOf, rowInUse, opened, taken, again, judged, rolledAt}
-use Rattle.window.specs.History.{Ids, rowAfter, verdictsOf, verdictOf, ruled, Shows}
+use Rattle.window.specs.Windows.{heardBy, windowAfter}
+use Rattle.window.specs.Rows.{windowOf, listOf, rowInUse, opened, again, judged, rolledAt}
+use Rattle.window.specs.History.{Ids, rowAfter, verdictsOf, verdictOf, ruled, ShowsIn, Shows}
 use Rattle.window.specs.declared.Row.{Row}
 use Rattle.window.specs.declared.Rolled.{Rolled}
+use Rattle.window.specs.declared.windows.Heard.{Heard}
+use Rattle.window.specs.declared.windows.Heard.the-variants as Heard
 use Rattle.window.specs.declared.Verdict.{Verdict}
 use Rattle.window.specs.declared.Verdict.the-variants.{New, Duplicate}
-use Rattle.window.proofs.Bits.{number-of, number-lt}
+use Rattle.window.proofs.Bits.{number-of}
 use Rattle.window.proofs.Positions.{Fits}
 use Rattle.window.proofs.Marks.{Keeps, outcome-first}
 use Rattle.window.proofs.Accepting.{step-new}
-use Rattle.window.proofs.Alike.{agree}
-use Rattle.window.proofs.Growing.{Far, keeps-far, far-step}
-use Rattle.window.proofs.Rows.{own, list-used, list-free, keeps-own, keeps-row, either}
+use Rattle.window.proofs.Growing.{Far, far-step}
+use Rattle.window.proofs.Hearing.{hears-full, shows-on}
+use Rattle.window.proofs.Rows.{own, list-used, list-free, keeps-own, either, rolledBy, judged-hears, row-hears}
 
 -- ---- one message
 
 -- the short list of a row may be replaced by any list that the row shows, so by the full one: rolling it comes to the same
 pub full-list : {B W : ℕ} → Fits B W → (row : Row) (ps : List ℕ) (id : ℕ) → Far ps → Shows W row ps → id < 2 ^ 32
     → rolledAt B W row id ≡ judged W row (accepts B W ps id) (step B W ps id)
-unfolding rolledAt judged
-full-list {B} {W} fits row [] id f s l = ap (λ (qs : List ℕ). judged W row (accepts B W qs id) (step B W qs id)) (list-free W row s)
-full-list {B} {W} fits row (p ∷ ps) id f s l =
-    let lh : row .highest < 2 ^ 32 = omega (arith, s .1) in
-    let full : Keeps W (p ∷ ps) (row .highest) (row .marks) =
-    subst⁻¹ (λ (h : ℕ). Keeps W (p ∷ ps) h (row .marks)) (s .1) (keeps-far W p ps (row .marks) f (s .2)) in
-    let o = agree B W fits (row .highest) (row .marks) id lh l (listOf W row) (p ∷ ps) (keeps-row fits row (s .0) lh) full in
-    λ i. cond (o .new i) (taken row (o .high i) (o .marks i)) (again row)
+full-list {B} {W} fits row ps id f s l =
+    row-hears B W row id ∙ ap (rolledBy row) (hears-full fits (windowOf row) ps id f s l) ∙ sym (judged-hears B W row ps id)
 
 -- the rule's verdict
 judged-verdict : (W : ℕ) (row : Row) (b : Bool) (ps : List ℕ) → judged W row b ps .verdict ≡ verdictOf b
@@ -44,12 +41,13 @@ judged-verdict W row false ps = refl
 
 -- the row then shows the list after the id
 judged-shows : (B W : ℕ) (row : Row) (ps : List ℕ) (id : ℕ) → Shows W row ps → Shows W (judged W row (accepts B W ps id) (step B W ps id) .row) (step B W ps id)
-unfolding judged step marksNumber
-judged-shows B W row ps id s = go (accepts B W ps id) (positionAfter B ps id)
+judged-shows B W row ps id s =
+    subst⁻¹ (λ (r : Rolled). Shows W (r .row) (step B W ps id)) (judged-hears B W row ps id)
+    (go (heardBy B W ps id) (step B W ps id) (shows-on B W (windowOf row) ps id s))
   where
-    go : (b : Bool) (p : ℕ) → Shows W (judged W row b (cond b (p ∷ ps) ps) .row) (cond b (p ∷ ps) ps)
-    go true p = (refl, refl, mod-eq-of-lt (number-lt W (λ k. member (greatest (p ∷ ps) - suc k) (p ∷ ps))))
-    go false p = s
+    go : (heard : Heard) (qs : List ℕ) → ShowsIn W (windowAfter (windowOf row) heard) qs → Shows W (rolledBy row heard .row) qs
+    go (Heard.New late h m) qs s = s
+    go Heard.Duplicate qs s = s
 
 -- is the verdict `New`?
 abbrev pub heardNew : Verdict → Bool

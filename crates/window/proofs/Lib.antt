@@ -5,6 +5,7 @@ pub mod Ledger
 pub mod Outcomes
 pub mod History
 pub mod Rows
+pub mod Hearing
 pub mod Growing
 pub mod Alike
 pub mod Marks

@@ -13,6 +13,7 @@ use Rattle.window.proofs.Positions.{Fits, position-ahead, position-behi
 use Rattle.window.proofs.Accepting.{new-above, new-same, new-near, new-old, step-old, step-new}
 use Rattle.window.proofs.Lists.{member-here, member-there, member-above, greatest-under, greatest-over}
 use Rattle.window.specs.Rule.{member, greatest, bitAt, positionAfter, isNewPosition, accepts, step, number, marksNumber}
+use Rattle.window.specs.Windows.{lateBy}
 
 -- ---- what a highest id and a number of marks say of a list
 pub record Keeps (W : ℕ) (ps : List ℕ) (h m : ℕ) : Type 0 where
@@ -92,6 +93,13 @@ module _ {B W : ℕ} {ps : List ℕ} {h m id d : ℕ} (a : Arrival B W ps h m id
   -- within the marks, where b is one less than the way back
   near : (b : ℕ) → d + suc b ≡ 2 ^ 32 → b < W → positionAfter B ps id ≡ greatest ps - suc b
   near b e l = behind (omega arith) ∙ omega arith
+
+  -- how far behind the greatest it lies: ahead of it not at all, else by the way back
+  pub late-ahead : d + B < 2 ^ 32 → lateBy B ps id ≡ 0
+  late-ahead l = ap (λ (p : ℕ). greatest ps - p) (ahead l) ∙ omega arith
+
+  pub late-behind : 2 ^ 32 ≤ d + B → lateBy B ps id ≡ 2 ^ 32 - d
+  late-behind l = ap (λ (p : ℕ). greatest ps - p) (behind l) ∙ omega (arith, far)
 
   -- its mark is set
   pub outcome-marked : (b : ℕ) → d + suc b ≡ 2 ^ 32 → b < W → bitAt m b ≡ true → Outcome B W ps id false h (m % 2 ^ W)

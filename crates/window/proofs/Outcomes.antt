@@ -12,9 +12,12 @@ use contract.Monad.{Fun, conj, conjL, conjR, fact, fact-use, fact-mono}
 use contract.Lifetimes.{Lfts}
 use denote.Ref.{RefT, now}
 use denote.Triple.Clauses.{AtExit}
+use Rattle.window.specs.declared.windows.Window.{Window}
+use Rattle.window.specs.declared.windows.Heard.{Heard}
 use Rattle.window.specs.declared.Row.{Row}
 use Rattle.window.specs.declared.Rolled.{Rolled}
 use Rattle.window.specs.declared.Verdict.{Verdict}
+use Rattle.window.proofs.windows.Window.heard as heard
 use Rattle.window.proofs.Row.open as opening
 use Rattle.window.proofs.Row.rolled as rolled
 use Rattle.window.proofs.roll as roll
@@ -24,6 +27,12 @@ module _ {M : Type 1} (𝓤 : URA M) (H : Heap 𝓤) (A : Atoms 𝓤) (at-mem : 
   both : (φ ψ χ : Type 0) → (φ → ψ → χ) → ent 𝓤 (conj 𝓤 (fact 𝓤 φ) (fact 𝓤 ψ)) (fact 𝓤 χ)
   both φ ψ χ k =
       fact-use 𝓤 φ (conjL 𝓤 (fact 𝓤 φ) (fact 𝓤 ψ)) (λ x. via 𝓤 (fact 𝓤 ψ) (conjR 𝓤 (fact 𝓤 φ) (fact 𝓤 ψ)) (fact-mono 𝓤 ψ χ (k x)))
+
+  -- `Window::heard` gives one answer
+  pub one-heard : (window : Window) (held id : ℕ) (r s : Heard)
+      → let allows : Heard → SProp 𝓤 = λ x. heard.clauses 𝓤 H A at-mem run tt (window, (held, (id, tt))) .ensures tt x (window, (held, (id, tt))) in
+      ent 𝓤 (conj 𝓤 (allows r) (allows s)) (fact 𝓤 (r ≡ s))
+  one-heard window held id r s = both _ _ _ (λ e f. e ∙ sym f)
 
   -- `Row::open` gives one row
   pub one-open : (node key id : ℕ) (r s : Row)

@@ -1,19 +1,23 @@
 -- The laws at a row, over B and W: what it stands for, and what rolling it can come to. Assumes nothing.
-use mathlib.Core.Path.{_≡_, refl, sym, ap, ap₂, _∙_, subst⁻¹}
+use mathlib.Core.Path.{_≡_, refl, ap, ap₂, _∙_, subst⁻¹}
 use mathlib.Core.Bool.{Bool, true, false, cond}
-use mathlib.Core.List.{List, [], _∷_}
-use Prim.Native.Nat.{ℕ, suc, _+_, _-_, _%_, _^_, _<_}
+use mathlib.Core.List.{List, []}
+use Prim.Native.Nat.{ℕ, suc, _+_, _-_, _%_, _^_, _≤_, _<_}
 use native.Mathlib.Omega.{arith}
 use lib.Dec.{eqb}
-use Rattle.window.specs.Rule.{member, greatest, marked, accepts, step, marksNumber}
-use Rattle.window.specs.Rows.{listOf, taken, again, judged, rolledAt, marksHeld, behindPlain, behindEncrypted, behindOf, rolledOf}
+use Rattle.window.specs.Rule.{member, greatest, accepts, step, marksNumber}
+use Rattle.window.specs.Rows.{windowOf, listOf, taken, again, judged, rolledAt, marksHeld, behindPlain, behindEncrypted, behindOf, rolledOf}
+use Rattle.window.specs.Windows.{listIn, lateBy, heardBy, heardAt}
 use Rattle.window.specs.History.{Distinct}
 use Rattle.window.specs.declared.Row.{Row}
 use Rattle.window.specs.declared.Rolled.{Rolled}
+use Rattle.window.specs.declared.windows.Heard.{Heard}
+use Rattle.window.specs.declared.windows.Heard.the-variants.{New, Duplicate}
 use Rattle.window.proofs.Bits.{number-lt}
-use Rattle.window.proofs.Lists.{member-there, greatest-over, greatest-in, marked-at, marked-out, marked-greatest, marked-distinct}
+use Rattle.window.proofs.Lists.{marked-out, marked-distinct}
 use Rattle.window.proofs.Positions.{Fits}
 use Rattle.window.proofs.Marks.{Keeps, Outcome, outcome-first}
+use Rattle.window.proofs.Hearing.{ownIn, window-used, window-free, keeps-own-in, keeps-window}
 
 -- the gateway's numbers are such as the laws ask for
 pub fits-gateway : (key : ℕ) → Fits (behindOf key) marksHeld
@@ -24,40 +28,37 @@ fits-gateway key = go (eqb key 0)
     go true = omega arith
     go false = omega arith
 
+-- no row looks further behind than an encrypted one
+pub behind-most : (key : ℕ) → behindOf key ≤ behindEncrypted
+unfolding behindOf
+behind-most key = go (eqb key 0)
+  where
+    go : (b : Bool) → cond b behindPlain behindEncrypted ≤ behindEncrypted
+    go true = omega arith
+    go false = omega arith
+
 -- ---- what a row stands for
 
 -- the list of a row in use
 abbrev pub own : ℕ → Row → List ℕ
-own W row = (row .highest + 2 ^ 32) ∷ marked W (row .marks) (row .highest + 2 ^ 32)
+own W row = ownIn W (windowOf row)
 
 module _ (W : ℕ) (row : Row) where
   pub list-used : row .used ≡ true → listOf W row ≡ own W row
   unfolding listOf
-  list-used u = ap (λ (b : Bool). cond b (own W row) []) u
+  list-used = window-used W (windowOf row)
 
   pub list-free : row .used ≡ false → listOf W row ≡ []
   unfolding listOf
-  list-free u = ap (λ (b : Bool). cond b (own W row) []) u
+  list-free = window-free W (windowOf row)
 
 -- its highest id and its marks keep it
 pub keeps-own : {B W : ℕ} → Fits B W → (row : Row) → row .highest < 2 ^ 32 → Keeps W (own W row) (row .highest) (row .marks)
-keeps-own {B} {W} fits row l =
-    let M : ℕ = row .highest + 2 ^ 32 in
-    let rest : List ℕ = marked W (row .marks) M in
-    let g : greatest (M ∷ rest) ≡ M = greatest-over M rest (marked-greatest (row .marks) M W) in
-    record {
-      high = ap (λ (x : ℕ). x % 2 ^ 32) g ∙ omega arith;
-      far = omega (arith, g);
-      held = greatest-in M rest;
-      marks = λ k h.
-          sym (ap (λ (x : ℕ). member (x - suc k) (M ∷ rest)) g
-          ∙ member-there (M - suc k) M rest (λ e. omega arith)
-          ∙ marked-at (row .marks) M W k (omega arith) h);
-    }
+keeps-own fits row = keeps-own-in fits (windowOf row)
 
 pub keeps-row : {B W : ℕ} → Fits B W → (row : Row) → row .used ≡ true → row .highest < 2 ^ 32 → Keeps W (listOf W row) (row .highest) (row .marks)
-keeps-row {B} {W} fits row u l =
-    subst⁻¹ (λ (ps : List ℕ). Keeps W ps (row .highest) (row .marks)) (list-used W row u) (keeps-own fits row l)
+unfolding listOf
+keeps-row fits row = keeps-window fits (windowOf row)
 
 -- and it holds no position twice
 pub list-distinct : {B W : ℕ} → Fits B W → (row : Row) → Distinct (listOf W row)
@@ -101,3 +102,27 @@ unfolding rolledOf
 stays-in-use row id u =
     either (behindOf (row .key)) marksHeld row id (λ r. (r .row .used ≡ true) × (r .row .node ≡ row .node) × (r .row .key ≡ row .key))
     (λ h m l. (refl, refl, refl)) (u, refl, refl)
+
+-- ---- a row and its window
+
+-- a row by what an id is to its window
+abbrev pub rolledBy : Row → Heard → Rolled
+rolledBy row (New late h m) = taken row h m
+rolledBy row Duplicate = again row
+
+-- rolling a row by a list is hearing by it
+pub judged-hears : (B W : ℕ) (row : Row) (ps : List ℕ) (id : ℕ) → judged W row (accepts B W ps id) (step B W ps id) ≡ rolledBy row (heardBy B W ps id)
+unfolding judged heardBy
+judged-hears B W row ps id = go (accepts B W ps id)
+  where
+    qs : List ℕ
+    qs = step B W ps id
+
+    go : (b : Bool) → judged W row b qs ≡ rolledBy row (cond b (New (lateBy B ps id) (greatest qs % 2 ^ 32) (marksNumber W qs)) Duplicate)
+    go true = refl
+    go false = refl
+
+-- so it is hearing by its window
+pub row-hears : (B W : ℕ) (row : Row) (id : ℕ) → rolledAt B W row id ≡ rolledBy row (heardAt B W (windowOf row) id)
+unfolding rolledAt heardAt listOf
+row-hears B W row id = judged-hears B W row (listIn W (windowOf row)) id

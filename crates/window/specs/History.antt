@@ -4,7 +4,9 @@ use mathlib.Core.Path.{_≡_}
 use mathlib.Core.Bool.{Bool, true, false}
 use mathlib.Core.List.{List, [], _∷_}
 use Rattle.window.specs.Rule.{member, accepts, step, accepted, greatest, marksNumber}
+use Rattle.window.specs.Rows.{windowOf}
 use Rattle.window.specs.declared.Row.{Row}
+use Rattle.window.specs.declared.windows.Window.{Window}
 use Rattle.window.specs.declared.Rolled.{Rolled}
 use Rattle.window.specs.declared.Verdict.{Verdict}
 use Rattle.window.specs.declared.Verdict.the-variants.{New, Duplicate}
@@ -34,11 +36,15 @@ unfoldable pub ruled : ℕ → ℕ → List ℕ → List ℕ → List Verdict
 ruled B W ps [] = []
 ruled B W ps (id ∷ ids) = verdictOf (accepts B W ps id) ∷ ruled B W (step B W ps id) ids
 
--- a row shows a list: it is not in use while the list is empty, and then has the list's highest id and marks, other bits apart
+-- a window shows a list: it is not in use while the list is empty, and then has the list's highest id and marks, other bits apart
+abbrev pub ShowsIn : ℕ → Window → List ℕ → Type 0
+ShowsIn W window [] = window .used ≡ false
+ShowsIn W window (p ∷ ps) =
+    (window .used ≡ true) × (window .highest ≡ greatest (p ∷ ps) % 2 ^ 32) × (window .marks % 2 ^ W ≡ marksNumber W (p ∷ ps))
+
+-- a row shows what its window does
 abbrev pub Shows : ℕ → Row → List ℕ → Type 0
-Shows W row [] = row .used ≡ false
-Shows W row (p ∷ ps) =
-    (row .used ≡ true) × (row .highest ≡ greatest (p ∷ ps) % 2 ^ 32) × (row .marks % 2 ^ W ≡ marksNumber W (p ∷ ps))
+Shows W row ps = ShowsIn W (windowOf row) ps
 
 -- a row that shows ps follows the rule: its verdicts on the ids are the rule's on the full list, which it then shows
 abbrev pub Follows : ℕ → ℕ → (Row → ℕ → Rolled) → Row → List ℕ → List ℕ → Type 0

@@ -1,16 +1,22 @@
 -- The rule of positions at a row: what opening a row and rolling it give. Assumes nothing.
-use Prim.Native.Nat.{ℕ, _+_, _%_, _^_}
+use Prim.Native.Nat.{ℕ, _%_, _^_}
 use mathlib.Core.Bool.{Bool, true, cond}
-use mathlib.Core.List.{List, [], _∷_}
+use mathlib.Core.List.{List}
 use lib.Dec.{eqb}
-use Rattle.window.specs.Rule.{accepts, step, greatest, marksNumber, marked}
+use Rattle.window.specs.Rule.{accepts, step, greatest, marksNumber}
+use Rattle.window.specs.Windows.{listIn}
+use Rattle.window.specs.declared.windows.Window.{Window}
 use Rattle.window.specs.declared.Row.{Row}
 use Rattle.window.specs.declared.Rolled.{Rolled}
 use Rattle.window.specs.declared.Verdict.the-variants.{New, Duplicate}
 
--- the positions that a row stands for: none while it is not in use, else that of its highest id and those of its marks
+-- the window of a row: all but its name
+abbrev pub windowOf : Row → Window
+windowOf row = record { used = row .used; highest = row .highest; marks = row .marks }
+
+-- the positions that a row stands for: those of its window
 unfoldable pub listOf : ℕ → Row → List ℕ
-listOf W row = cond (row .used) ((row .highest + 2 ^ 32) ∷ marked W (row .marks) (row .highest + 2 ^ 32)) []
+listOf W row = listIn W (windowOf row)
 
 -- a row in use
 abbrev pub rowInUse : ℕ → ℕ → ℕ → ℕ → Row

@@ -1,9 +1,11 @@
-// One row of the reception table, and what an arriving message id does to it: the rule of positions ("Rows and verdicts").
-// The table, the search for a name and the messages themselves are not here.
+// One row of the reception table, and what an arriving message id does to it: the rule of positions ("Rows and verdicts"). A row is a window
+// under a name; what an id is to a window is in `windows`. The table, the search for a name and the messages themselves are not here.
+mod windows;
+
 ghost use mathlib.Core.Path.{_≡_};
-ghost use Prim.Native.Nat.{_*_, _-_, _%_, _^_, _<_};
-ghost use lib.Bits.{bitOr};
-ghost use Rattle.window.specs.Rows.{again, behindOf, marksHeld, opened, rolledOf, taken};
+ghost use Rattle.window.specs.Rows.{again, behindOf, opened, rolledOf, taken};
+pub use windows::Heard;
+pub use windows::Window;
 
 // What an arriving id is: new, as far as its row can tell; or heard before, or too far behind to tell.
 pub enum Verdict {
@@ -74,18 +76,6 @@ impl Row {
         }
     }
 
-    // The marks once the highest has moved up by `ahead`: each moves up as far, past the last it is gone, and the old highest has one too.
-    fn shifted(marks: u16, ahead: u32) -> u16
-        requires { ⌜ 0 < ahead ⌝ }
-        ensures { λ r. ⌜ r ≡ bitOr (marks * 2 ^ ahead) (2 ^ (ahead - 1)) % 2 ^ marksHeld ⌝ }
-    {
-        if ahead <= Row::MARKS {
-            ((((marks as u32) << ahead) | (1u32 << (ahead - 1))) % Row::ABOVE_MARKS) as u16
-        } else {
-            0
-        }
-    }
-
     // New: the row in use under its name, with this highest id and these marks.
     fn taken(self, highest: u32, marks: u16) -> Rolled
         ensures { λ r. ⌜ r ≡ taken self highest marks ⌝ }
@@ -108,37 +98,19 @@ impl Row {
         }
     }
 
-    // What an arriving id is, and the row after it:
-    // - a row not in use is opened at the id, under the name it carries;
-    // - the highest id again is a duplicate;
-    // - an id ahead becomes the highest, and so does one further behind than the row looks back;
-    // - behind the marks an id is a duplicate;
-    // - within the marks, it is a duplicate if its mark is set, and else sets it.
+    // What an arriving id is, and the row after it: a row is a window under its name.
     pub fn rolled(self, id: u32) -> Rolled
         ensures { λ r. ⌜ r ≡ rolledOf self id ⌝ }
     {
-        if !self.used {
-            return self.taken(id, 0);
+        let window = Window {
+            used: self.used,
+            highest: self.highest,
+            marks: self.marks as u64,
+        };
+        match windows::heard_within(window, Row::behind(self.key), Row::MARKS, id) {
+            Heard::New(_, highest, marks) => self.taken(highest, marks as u16),
+            Heard::Duplicate => self.again(),
         }
-        let highest = self.highest;
-        let ahead = std::num::wrapping_sub_u32(id, highest);
-        if ahead == 0 {
-            return self.again();
-        }
-        // The bit of the id's mark where it is behind: one less than the way back.
-        let bit = u32::MAX - ahead;
-        if Row::behind(self.key) <= bit {
-            return self.taken(id, Row::shifted(self.marks, ahead));
-        }
-        if Row::MARKS <= bit {
-            return self.again();
-        }
-        let marks = self.marks as u32;
-        let mark = 1u32 << bit;
-        if marks & mark != 0 {
-            return self.again();
-        }
-        self.taken(highest, ((marks | mark) % Row::ABOVE_MARKS) as u16)
     }
 }
 

@@ -3,9 +3,9 @@ use Prim.Native.Nat.{_≤_}
 use mathlib.Core.Path.{ap}
 use native.Mathlib.Omega.{arith}
 use lib.ListN.{length}
-use Rattle.lines.specs.Lines.{refusedWord, saidText, lineText}
+use Rattle.lines.specs.Lines.{saidText, lineText}
 use Rattle.lines.proofs.Decimals.{decimal-most}
-use Rattle.lines.proofs.Texts.{ended, line-stored, counted}
+use Rattle.lines.proofs.Texts.{line-stored, counted}
 use borrow.Author.Needs.{needs}
 use Rattle.lines.proofs.line.Statement.{statement}
 use Rattle.lines.proofs.line.Tie as tie
@@ -16,17 +16,8 @@ closing-requires c κs = let m = decimal-most (c .before .before .before .before
 closing-requires-2 : tie.Need-closing-requires-2
 closing-requires-2 c κs = let m = decimal-most (c .before .before .before .before .before .before .before .args .ordinal) in omega arith
 
-text-requires : tie.Need-text-requires
-text-requires c κs = let m = decimal-most (c .before .before .before .before .before .before .before .args .ordinal) in omega arith
-
-number-requires-2 : tie.Need-number-requires-2
-number-requires-2 c κs = let m = decimal-most (c .before .before .before .before .before .before .before .before .before .args .ordinal) in omega arith
-
-closing-requires-3 : tie.Need-closing-requires-3
-closing-requires-3 c κs =
-    let m = decimal-most (c .before .before .before .before .before .before .before .before .before .before .before .before .args .ordinal) in
-    let n = decimal-most (c .before .before .before .before .before .before .before .before .said3 .given .0 .0) in
-    omega arith
+pair-requires : tie.Need-pair-requires
+pair-requires c κs = let m = decimal-most (c .before .before .before .before .before .before .before .args .ordinal) in omega arith
 
 returns : tie.Need-returns
 returns c =
@@ -46,13 +37,11 @@ returns-2 c =
 
 returns-3 : tie.Need-returns-3
 returns-3 c =
-    let a = c .before .before .before .before .before .before .before .before .before .before .before .before .before .args in
+    let a = c .before .before .before .before .before .before .before .before .args in
     let h : 72 ≤ length (a .out .now) = omega arith in
-    let e = c .before .before .before .before .before .before .before .before .before .said3 .given .1 in
-    let first = c .before .before .before .before .before .before .before .before .before .before .before .number in
-    let rest = ended (first .last .0) refusedWord _ _ _ (c .before .before .before .before .before .text .ensures) (c .before .before .before .number2 .ensures) (c .closing3 .ensures) in
+    let e = c .before .before .before .before .said3 .given .1 in
     counted (a .out .now) (lineText (a .ordinal) (a .said))
-    (line-stored (a .out .now) (a .ordinal) (a .said) h (ap saidText e) (first .ensures) rest)
+    (line-stored (a .out .now) (a .ordinal) (a .said) h (ap saidText e) (c .before .before .before .before .before .before .number .ensures) (c .pair .ensures))
 
 pub line-spec : {M : Type 1} → statement M
 line-spec =
@@ -69,11 +58,8 @@ line-spec =
     closing-requires-2
     (λ c. search needs)
     (λ c. search needs)
-    text-requires
     (λ c. search needs)
-    number-requires-2
-    (λ c. search needs)
-    closing-requires-3
+    pair-requires
     returns
     returns-2
     returns-3)

@@ -1,0 +1,2 @@
+-- What the contract of `trial` cites.
+pub mod Lines
