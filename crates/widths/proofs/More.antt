@@ -5,6 +5,7 @@ use mathlib.Core.Bool.{Bool, true, false, cond, not, true≢false}
 use mathlib.Core.List.{List, [], _∷_}
 use Prim.Native.Nat.{ℕ, _+_, _-_, _≤_, _<_}
 use native.Mathlib.Omega.{arith}
+use lib.Dec.{ltb}
 use borrow.Author.Tests.{lt-ltb, le-ltb}
 use native.Mathlib.Decide.{ℕ-discrete, decLt}
 use Rattle.window.specs.Rule.{member, greatest, positionOf, positionAfter, isNewPosition, accepts, step}
@@ -15,7 +16,7 @@ use Rattle.window.specs.declared.Verdict.the-variants.{New, Duplicate}
 use Rattle.window.proofs.Accepting.{new-above, new-same, new-near, new-old, step-new, step-old}
 use Rattle.window.proofs.History.{heardNew}
 use Rattle.window.proofs.Lists.{member-here, member-there}
-use Rattle.widths.specs.Trial.{NewToo, newAmong, lostOf, lostFrom}
+use Rattle.widths.specs.Trial.{NewToo, newAmong, lostOf, lostFrom, unlessLost, withoutLost}
 
 -- the list of w marks and that of more: the same greatest position, and the same positions among the w below it
 pub record Within (w : ℕ) (ps qs : List ℕ) : Type 0 where
@@ -173,6 +174,24 @@ lost-besides B w W l ps qs (id ∷ ids) s =
     add true false us vs x n e f = omega (arith, e, f)
     add false true us vs x n e f = omega (arith, e, f)
     add false false us vs x n e f = omega (arith, e, f)
+
+-- and id by id
+pub without-lost : (B w W : ℕ) → w ≤ W → (ps qs ids : List ℕ) → Within w ps qs → ruled B w ps ids ≡ withoutLost B W w qs ids
+unfolding ruled withoutLost
+without-lost B w W l ps qs [] s = refl
+without-lost B w W l ps qs (id ∷ ids) s =
+    let on = goes-on B w W l ps qs id s in
+    ap₂ (λ (v : Verdict) (vs : List Verdict). v ∷ vs)
+    (one (accepts B w ps id) (accepts B W qs id) (ltb w (lateBy B qs id)) (on .2))
+    (without-lost B w W l (step B w ps id) (step B W qs id) ids (on .0))
+  where
+    one : (a b lost : Bool) → cond a 1 0 + cond b (cond lost 1 0) 0 ≡ cond b 1 0 → verdictOf a ≡ unlessLost lost (verdictOf b)
+    one true true true e = absurd (omega (arith, e))
+    one false true true e = refl
+    one true true false e = refl
+    one false true false e = absurd (omega (arith, e))
+    one true false lost e = absurd (omega (arith, e))
+    one false false lost e = refl
 
 -- so there are no fewer of them
 pub no-fewer : (us vs : List Verdict) → NewToo us vs → newAmong us ≤ newAmong vs

@@ -17,11 +17,11 @@ found : (u : ℕ) (ids : List ℕ) → u ≤ mostMarks → newAmong (verdictsWit
 found u ids l = lost-besides behindEncrypted u mostMarks l [] [] ids (within-none u)
 
 module _ (v w : ℕ) (ids : List ℕ) (run : Run) (p : Passed v w ids run) where
-  pub few-found : v ≤ mostMarks → newAmong (verdictsWith v ids) + run .few ≡ run .new
-  few-found l = omega (arith, p .new, p .few, found v ids l)
+  pub past-found : v ≤ mostMarks → newAmong (verdictsWith v ids) + run .past ≡ run .new
+  past-found l = omega (arith, p .new, p .past, found v ids l)
 
-  pub more-found : w ≤ mostMarks → newAmong (verdictsWith w ids) + run .more ≡ run .new
-  more-found l = omega (arith, p .new, p .more, found w ids l)
+  pub beyond-found : w ≤ mostMarks → newAmong (verdictsWith w ids) + run .beyond ≡ run .new
+  beyond-found l = omega (arith, p .new, p .beyond, found w ids l)
 
 -- there are no more of them than ids
 pub found-most : (W : ℕ) (ids : List ℕ) → newAmong (verdictsWith W ids) ≤ length ids

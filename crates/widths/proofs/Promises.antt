@@ -13,13 +13,13 @@ use Rattle.window.specs.History.{Ids, verdictsOf, ruled}
 use Rattle.window.specs.declared.Row.{Row}
 use Rattle.window.proofs.Rows.{list-free}
 use Rattle.window.proofs.Promises.{gateway-history-of-a-row}
-use Rattle.widths.specs.Trial.{idsOf, verdictsWith, farthestNew, lostFrom, tallyOf, leastOf, Smallest, NewToo, recorded, countedOf, trialOf}
+use Rattle.widths.specs.Trial.{idsOf, verdictsWith, farthestNew, lostFrom, withoutLost, tallyOf, leastOf, Smallest, NewToo, recorded, countedOf, trialOf}
 use Rattle.widths.specs.declared.Tried.the-variants.{Refused}
 use Rattle.widths.proofs.Fewer.{same-verdicts, other-verdicts, farthest-most}
 use Rattle.widths.proofs.Least.{least-is}
 use Rattle.widths.proofs.Running.{counted-once}
 use Rattle.widths.proofs.Recorded.{recorded-length, recorded-back, decided}
-use Rattle.widths.proofs.More.{within-none, new-too, lost-besides, no-fewer}
+use Rattle.widths.proofs.More.{within-none, new-too, lost-besides, without-lost, no-fewer}
 
 -- ---- the refusal
 module _ (bytes : List ℕ) where
@@ -70,10 +70,14 @@ pub more-marks-find-no-fewer : (w W : ℕ) → w ≤ W → (ids : List ℕ) → 
 unfolding tallyOf
 more-marks-find-no-fewer w W l ids = no-fewer (verdictsWith w ids) (verdictsWith W ids) (more-marks-lose-nothing w W l ids)
 
--- What fewer marks than 63 lose are the ids that lie further behind than they reach, and no others.
-pub fewer-lose-what-is-further-behind : (w : ℕ) → w ≤ 63 → (ids : List ℕ) → tallyOf w ids .new + lostFrom behindEncrypted 63 w [] ids ≡ tallyOf 63 ids .new
+-- What fewer marks lose are the ids that lie further behind than they reach, and no others: their verdicts are those of more, less these.
+pub fewer-lose-what-is-further-behind : (w W : ℕ) → w ≤ W → (ids : List ℕ) → verdictsWith w ids ≡ withoutLost behindEncrypted W w [] ids
+fewer-lose-what-is-further-behind w W l ids = without-lost behindEncrypted w W l [] [] ids (within-none w)
+
+-- So the new counts differ by as many.
+pub counts-differ-by-the-lost : (w W : ℕ) → w ≤ W → (ids : List ℕ) → tallyOf w ids .new + lostFrom behindEncrypted W w [] ids ≡ tallyOf W ids .new
 unfolding tallyOf
-fewer-lose-what-is-further-behind w l ids = lost-besides behindEncrypted w 63 l [] [] ids (within-none w)
+counts-differ-by-the-lost w W l ids = lost-besides behindEncrypted w W l [] [] ids (within-none w)
 
 -- ---- the least number of marks
 module _ (ids : List ℕ) where

@@ -1,4 +1,4 @@
--- The count as it goes: steps that only private contracts cite. Assumes nothing.
+-- The count as it goes, with what two lesser numbers of marks, v and w, would lose: steps that only private contracts cite. Assumes nothing.
 use Prim.Native.Nat.{ℕ, _+_, _-_, max}
 use mathlib.Core.Path.{_≡_}
 use mathlib.Core.Bool.{true}
@@ -24,8 +24,8 @@ ran v w run (New late highest marks) =
       highest = highest;
       marks = marks;
       new = run .new + 1;
-      few = run .few + lostOf v late;
-      more = run .more + lostOf w late;
+      past = run .past + lostOf v late;
+      beyond = run .beyond + lostOf w late;
       farthest = max (run .farthest) late;
     }
 ran v w run Duplicate = run
@@ -37,8 +37,8 @@ runAfter v w run id = ran v w run (heardAt behindEncrypted mostMarks (windowIn r
 -- what a run has counted of all ids
 pub record Passed (v w : ℕ) (ids : List ℕ) (run : Run) : Type 0 where
   pub new : run .new ≡ newAmong (verdictsWith mostMarks ids)
-  pub few : run .few ≡ lostFrom behindEncrypted mostMarks v [] ids
-  pub more : run .more ≡ lostFrom behindEncrypted mostMarks w [] ids
+  pub past : run .past ≡ lostFrom behindEncrypted mostMarks v [] ids
+  pub beyond : run .beyond ≡ lostFrom behindEncrypted mostMarks w [] ids
   pub farthest : run .farthest ≡ farthestNew behindEncrypted mostMarks [] ids
 
 -- a tally of so many new ids among all

@@ -9,7 +9,7 @@ use Rattle.wire.specs.Bytes.{little, littleBytes}
 use Rattle.window.specs.Rule.{accepts, step}
 use Rattle.window.specs.Windows.{lateBy}
 use Rattle.window.specs.Rows.{behindEncrypted}
-use Rattle.window.specs.History.{ruled}
+use Rattle.window.specs.History.{verdictOf, ruled}
 use Rattle.window.specs.declared.Verdict.{Verdict}
 use Rattle.window.specs.declared.Verdict.the-variants.{New, Duplicate}
 use Rattle.widths.specs.declared.Tally.{Tally}
@@ -59,7 +59,7 @@ farthestNew B W ps (id ∷ ids) = max (cond (accepts B W ps id) (lateBy B ps id)
 abbrev pub lostOf : ℕ → ℕ → ℕ
 lostOf w late = cond (ltb w late) 1 0
 
--- how many of the ids that are new by W marks w of them lose: those that lie further behind
+-- how many ids that are new by W marks would be lost with w: those that lie further behind
 unfoldable pub lostFrom : ℕ → ℕ → ℕ → List ℕ → List ℕ → ℕ
 lostFrom B W w ps [] = 0
 lostFrom B W w ps (id ∷ ids) = cond (accepts B W ps id) (lostOf w (lateBy B ps id)) 0 + lostFrom B W w (step B W ps id) ids
@@ -112,11 +112,21 @@ NewToo [] (v ∷ vs) = ⊥
 NewToo (u ∷ us) [] = ⊥
 NewToo (u ∷ us) (v ∷ vs) = (u ≡ New → v ≡ New) × NewToo us vs
 
+-- a verdict, where its id may be lost: what is new is a duplicate then
+abbrev pub unlessLost : Bool → Verdict → Verdict
+unlessLost lost New = cond lost Duplicate New
+unlessLost lost Duplicate = Duplicate
+
+-- the verdicts of W marks, less what w marks lose: the ids that lie further behind
+unfoldable pub withoutLost : ℕ → ℕ → ℕ → List ℕ → List ℕ → List Verdict
+withoutLost B W w ps [] = []
+withoutLost B W w ps (id ∷ ids) = unlessLost (ltb w (lateBy B ps id)) (verdictOf (accepts B W ps id)) ∷ withoutLost B W w (step B W ps id) ids
+
 -- ---- the trial
 
 -- 28: the number of bytes is not a multiple of 4, or above 65,536
 abbrev pub badIds : ℕ → Bool
-badIds count = not (eqb (count % 4) 0) || ltb 65536 count
+badIds len = not (eqb (len % 4) 0) || ltb 65536 len
 
 -- the three tallies and the least number
 abbrev pub countedOf : List ℕ → Tried

@@ -36,15 +36,15 @@ pub enum Tried {
     Refused(u8),
 }
 
-// The ids so far: their window of 63 marks, and how many it found new. `few` and `more` say how many of these two lesser numbers of marks
-// would have lost, which are those that lay further behind; `farthest` how far behind the farthest lay.
+// The ids so far: their window of 63 marks, how many it found new, how many of these lay past the reach of a few marks and how many beyond
+// that of more, which would have lost them, and how far behind the farthest lay.
 struct Run {
     used: bool,
     highest: u32,
     marks: u64,
     new: usize,
-    few: usize,
-    more: usize,
+    past: usize,
+    beyond: usize,
     farthest: u32,
 }
 
@@ -69,14 +69,14 @@ impl Run {
         highest: 0,
         marks: 0,
         new: 0,
-        few: 0,
-        more: 0,
+        past: 0,
+        beyond: 0,
         farthest: 0,
     };
 
     // One id more. The fields of a duplicate's run are written out, since a run that is handed on whole goes through memory.
     fn after(self, few: u32, more: u32, id: u32) -> Run
-        requires { ⌜ (self .new < 2 ^ 63) × (self .few < 2 ^ 63) × (self .more < 2 ^ 63) ⌝ }
+        requires { ⌜ (self .new < 2 ^ 63) × (self .past < 2 ^ 63) × (self .beyond < 2 ^ 63) ⌝ }
         ensures { λ r. ⌜ r ≡ runAfter few more self id ⌝ }
     {
         let window = Window {
@@ -90,8 +90,8 @@ impl Run {
                 highest,
                 marks,
                 new: self.new + 1,
-                few: self.few + lost(few, late),
-                more: self.more + lost(more, late),
+                past: self.past + lost(few, late),
+                beyond: self.beyond + lost(more, late),
                 farthest: greater(self.farthest, late),
             },
             Heard::Duplicate => Run {
@@ -99,8 +99,8 @@ impl Run {
                 highest: self.highest,
                 marks: self.marks,
                 new: self.new,
-                few: self.few,
-                more: self.more,
+                past: self.past,
+                beyond: self.beyond,
                 farthest: self.farthest,
             },
         }
@@ -140,7 +140,7 @@ pub fn count(held: u32, ids: &[u8]) -> Tally
     let most = Window::MOST;
     let held = if held < most { held } else { most };
     let run = pass(held, held, ids);
-    tallied(held, run.new - run.few, ids.len() / ID)
+    tallied(held, run.new - run.past, ids.len() / ID)
 }
 
 // Tries 15, 31 and 63 marks on the ids. Refusal 28.
@@ -153,8 +153,8 @@ pub fn trial(ids: &[u8]) -> Tried
     }
     let run = pass(FEW, MORE, ids);
     let all = len / ID;
-    let few = tallied(FEW, run.new - run.few, all);
-    let more = tallied(MORE, run.new - run.more, all);
+    let few = tallied(FEW, run.new - run.past, all);
+    let more = tallied(MORE, run.new - run.beyond, all);
     let most = tallied(Window::MOST, run.new, all);
     Tried::Counted(few, more, most, greater(1, run.farthest))
 }

@@ -27,7 +27,7 @@ pub enum Heard {
     Duplicate,
 }
 
-// The marks once the highest has moved up by `ahead`, which is no more than there are marks: the old highest has one below them, all move
+// The marks once the highest has moved up by `ahead`, which is no more than there are marks: the old highest gets one below them, all move
 // up, and past the last they are gone.
 fn shifted(marks: u64, held: u32, ahead: u32) -> u64
     requires { ⌜ (held ≤ mostMarks) × (0 < ahead) × (ahead ≤ held) ⌝ }

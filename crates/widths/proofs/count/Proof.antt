@@ -8,7 +8,7 @@ use borrow.Author.Needs.{needs}
 use Rattle.window.specs.Windows.{mostMarks}
 use Rattle.widths.specs.Trial.{idsOf, verdictsWith, newAmong, tallyOf}
 use Rattle.widths.proofs.Recorded.{ids-length}
-use Rattle.widths.proofs.Passed.{few-found, found-most, told}
+use Rattle.widths.proofs.Passed.{past-found, found-most, told}
 use Rattle.widths.proofs.count.Statement.{statement}
 use Rattle.widths.proofs.count.Tie as tie
 
@@ -23,8 +23,8 @@ module _ (c : tie.After-pass) where
   lesser : held ≡ min (c .before .before .before .args .held) mostMarks
   lesser = ⊎-elim (λ w. w .1 ∙ omega (arith, w .0 .taken)) (λ w. w .1 ∙ omega (arith, w .0 .left)) (c .before .if1 .came)
 
-  found : newAmong (verdictsWith held (idsOf bytes)) + c .pass .result .few ≡ c .pass .result .new
-  found = few-found held held (idsOf bytes) (c .pass .result) (c .pass .ensures) (omega (arith, lesser))
+  found : newAmong (verdictsWith held (idsOf bytes)) + c .pass .result .past ≡ c .pass .result .new
+  found = past-found held held (idsOf bytes) (c .pass .result) (c .pass .ensures) (omega (arith, lesser))
 
 sub-tallied : tie.Need-sub-tallied
 sub-tallied c = omega (arith, found (c .before))

@@ -20,7 +20,7 @@ use Rattle.widths.proofs.pass.Tie as tie
 
 abbrev Inv-loop : tie.InvT-loop
 Inv-loop few more bytes end run₀ at₀ run at =
-    (at ≤ end) × (at % 4 ≡ 0) × (run .new ≤ at) × (run .few ≤ at) × (run .more ≤ at) × Left few more (idsOf bytes) run (idsOf (drop at bytes))
+    (at ≤ end) × (at % 4 ≡ 0) × (run .new ≤ at) × (run .past ≤ at) × (run .beyond ≤ at) × Left few more (idsOf bytes) run (idsOf (drop at bytes))
 
 abbrev μ-loop : tie.MeasureT-loop
 μ-loop few more bytes end run₀ at₀ run at = end - at
@@ -54,8 +54,8 @@ loop-again c =
       omega (arith, i .1, t),
       omega (arith, i .1),
       omega (arith, i .2, once .0, ap (λ (r : Run). r .new) run),
-      omega (arith, i .3, once .1, ap (λ (r : Run). r .few) run),
-      omega (arith, i .4, once .2, ap (λ (r : Run). r .more) run),
+      omega (arith, i .3, once .1, ap (λ (r : Run). r .past) run),
+      omega (arith, i .4, once .2, ap (λ (r : Run). r .beyond) run),
       left-on (a .few) (a .more) (idsOf bytes) (l .run) _ _ _ id (omega arith) ids run (i .5),
     )
 

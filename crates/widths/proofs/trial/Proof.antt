@@ -9,7 +9,7 @@ use Rattle.widths.specs.Trial.{idsOf, verdictsWith, newAmong}
 use Rattle.widths.specs.declared.Tried.the-variants.{Counted}
 use Rattle.widths.proofs.Least.{least-is}
 use Rattle.widths.proofs.Recorded.{ids-length, decided}
-use Rattle.widths.proofs.Passed.{few-found, more-found, found-most, told}
+use Rattle.widths.proofs.Passed.{past-found, beyond-found, found-most, told}
 use Rattle.widths.proofs.trial.Statement.{statement}
 use Rattle.widths.proofs.trial.Tie as tie
 
@@ -18,11 +18,11 @@ module _ (c : tie.After-pass) where
   abbrev bytes : List ℕ
   bytes = c .before .before .before .args .ids .now
 
-  few : newAmong (verdictsWith 15 (idsOf bytes)) + c .pass .result .few ≡ c .pass .result .new
-  few = few-found 15 31 (idsOf bytes) (c .pass .result) (c .pass .ensures) (omega arith)
+  few : newAmong (verdictsWith 15 (idsOf bytes)) + c .pass .result .past ≡ c .pass .result .new
+  few = past-found 15 31 (idsOf bytes) (c .pass .result) (c .pass .ensures) (omega arith)
 
-  more : newAmong (verdictsWith 31 (idsOf bytes)) + c .pass .result .more ≡ c .pass .result .new
-  more = more-found 15 31 (idsOf bytes) (c .pass .result) (c .pass .ensures) (omega arith)
+  more : newAmong (verdictsWith 31 (idsOf bytes)) + c .pass .result .beyond ≡ c .pass .result .new
+  more = beyond-found 15 31 (idsOf bytes) (c .pass .result) (c .pass .ensures) (omega arith)
 
 returns : tie.Need-returns
 returns c = sym (decided (c .before .before .args .ids .now) true (c .if1 .taken))
