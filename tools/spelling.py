@@ -19,7 +19,8 @@ import sys
 WORD = r"[A-Za-z0-9_'′-]"
 NAME = r"[A-Za-z_]" + WORD + "*"
 DECLARED = re.compile(r"^(?:(?:pub|abbrev|unfoldable|data|record)\s+)*(" + NAME + r"|◌[^\s◌]+◌)\s*(?:[({].*?)?\s*:(?!=)\s*(.*)$")
-INNER = re.compile(r"^\s+(" + NAME + r")\s*:(?!=)\s*(.*)$")
+INNER = re.compile(r"^\s+(?:(?:pub|abbrev|unfoldable)\s+)*(" + NAME + r")\s*:(?!=)\s*(.*)$")
+ALIAS = re.compile(r"^use \S+ as (" + NAME + r")$", re.M)
 IMPORT = re.compile(r"^(?:ghost )?use ([^\s{]+)\.\{([^}]*)\}", re.M)
 GOAL = re.compile(r"\b(?:tie|goal)\.(?:Need-|need-)?(" + NAME + ")")
 
@@ -68,6 +69,7 @@ def declared(root):
         text = read(path)
         if path.endswith("Proof.antt"):
             goals.update(GOAL.findall(text))
+        kinds.update((name, False) for name in ALIAS.findall(text) if name[0].islower())
         for line in text.split("\n"):
             if re.match(r"\s*(?:use|mod|pub mod|infix|unfolding|--)(?:\s|$)", line):
                 continue

@@ -61,10 +61,10 @@ refuses_all r q value sender m h t old answer n e a =
 
 module _ (value : Message) (room sender : ℕ) (m : Message) (h : Head) (t : List ℕ) where
   -- a plan that is refused is the answer
-  pub not-planned : (r : Refusal) → planned_of m.wants value room ≡ Writing.Refused r
+  pub not_planned : (r : Refusal) → planned_of m.wants value room ≡ Writing.Refused r
       → Received.Refused r ≡ admit_of value room sender m h t
   unfolding planned_of admission_order answer_of
-  not-planned r = go m.wants (acknowledging value room)
+  not_planned r = go m.wants (acknowledging value room)
     where
       rest : List Condition
       rest = 20 when no_row t sender m.key ∷ []
@@ -86,9 +86,9 @@ module _ (value : Message) (room sender : ℕ) (m : Message) (h : Head) (t : Lis
     pub length : only m.wants (total value []) ≡ n
     pub writes : m.wants ≡ true → acknowledging value room ≡ Writing.Written n
 
-  pub is-planned : (n : ℕ) → planned_of m.wants value room ≡ Writing.Written n → Planned n
+  pub is_planned : (n : ℕ) → planned_of m.wants value room ≡ Writing.Written n → Planned n
   unfolding planned_of admission_order acknowledging
-  is-planned n e =
+  is_planned n e =
       record {
         order = go.0;
         length = go.1;
@@ -162,14 +162,14 @@ module _ (value : Message) (sender : ℕ) (m : Message) (h : Head) (t old : List
       → (answer ≡ admit_of value (length old) sender m h t) × ((t ≡ table_by answer sender m t) × (buffer ≡ buffer_by answer value m old))
   unanswered r buffer ew er eb ea =
       let p = sym ew ∙ er in
-      (ea ∙ not-planned value (length old) sender m h t r p, (keeps_table answer r sender m t ea, eb ∙ unwritten m.wants value old r p ∙ keeps_buffer answer r value m old ea))
+      (ea ∙ not_planned value (length old) sender m h t r p, (keeps_table answer r sender m t ea, eb ∙ unwritten m.wants value old r p ∙ keeps_buffer answer r value m old ea))
 
   -- all rows are in use
-  pub no-row : w ≡ planned_of m.wants value (length old) → rows ≤ row_for t sender m.key → answer ≡ full_of w
+  pub no_row_lem : w ≡ planned_of m.wants value (length old) → rows ≤ row_for t sender m.key → answer ≡ full_of w
       → (answer ≡ admit_of value (length old) sender m h t) × ((t ≡ table_by answer sender m t) × (old ≡ buffer_by answer value m old))
-  no-row ew l = go w ew
+  no_row_lem ew l = go w ew
     where
       go : (a : Writing) → a ≡ planned_of m.wants value (length old) → answer ≡ full_of a
           → (answer ≡ admit_of value (length old) sender m h t) × ((t ≡ table_by answer sender m t) × (old ≡ buffer_by answer value m old))
-      go (Writing.Written n) e ea = refuses_all (refusal 20) _ value sender m h t old answer (λ z. omega arith) (full value sender m h t old n (is-planned value (length old) sender m h t n (sym e)) l) ea
-      go (Writing.Refused r) e ea = (ea ∙ not-planned value (length old) sender m h t r (sym e), (keeps_table answer r sender m t ea, keeps_buffer answer r value m old ea))
+      go (Writing.Written n) e ea = refuses_all (refusal 20) _ value sender m h t old answer (λ z. omega arith) (full value sender m h t old n (is_planned value (length old) sender m h t n (sym e)) l) ea
+      go (Writing.Refused r) e ea = (ea ∙ not_planned value (length old) sender m h t r (sym e), (keeps_table answer r sender m t ea, keeps_buffer answer r value m old ea))

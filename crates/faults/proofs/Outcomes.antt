@@ -17,7 +17,7 @@ use Rattle.faults.specs.contracts.restoring_refusal as refusing
 
 module _ {M : Type 1} {𝓤 : Ura M} (𝓛 : Logic 𝓤) (at_mem : Memory → SProp 𝓤) (run : Routine → Fun 𝓤) where
   -- it gives one number
-  pub one-restoring-refusal : (κs : Lfts 1) (bytes : Bor (List ℕ)) (r s : ℕ) (x y : AtExit refusing.ended κs)
+  pub one_restoring_refusal : (κs : Lfts 1) (bytes : Bor (List ℕ)) (r s : ℕ) (x y : AtExit refusing.ended κs)
       → let allows : ℕ → AtExit refusing.ended κs → SProp 𝓤 = λ v e. (refusing.clauses 𝓛 at_mem run κs (bytes, tt)).ensures tt v e in
       ent 𝓤 (conj 𝓤 (allows r x) (allows s y)) (fact 𝓤 (r ≡ s))
-  one-restoring-refusal κs bytes r s x y = both 𝓤 _ _ _ (λ e f. e ∙ sym f)
+  one_restoring_refusal κs bytes r s x y = both 𝓤 _ _ _ (λ e f. e ∙ sym f)

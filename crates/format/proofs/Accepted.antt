@@ -79,7 +79,7 @@ module _ (bs : List ℕ) (e : read_of bs ≡ as_taken (message_of bs)) where
       let m = message_of bs in
       let g = tunnel_room m.tunnelled m.acknowledges (body_of m) (check_length m) (length bs) t k.outer.fixed in
       let n : head_length m + 0 ≡ body_of m + 1 = add-zero (head_length m) ∙ ap (λ (b : Bool). body_of m + cond b 1 (8 + only m.acknowledges 4)) t in
-      ap (λ (l : List ℕ). get_or l 0 0) (parts.payload-is bs m e)
+      ap (λ (l : List ℕ). get_or l 0 0) (parts.payload_is bs m e)
       ∙ get_or-take _ _ 0 0 g
       ∙ get_or-drop (head_length m) bs 0 0
       ∙ ap (λ (i : ℕ). get_or bs i 0) n
@@ -91,7 +91,7 @@ module _ (bs : List ℕ) (e : read_of bs ≡ as_taken (message_of bs)) where
   packet_is : (message_of bs).tunnelled ≡ true → payload_of bs (read_of bs) ≡ up_to_check (message_of bs) (body_of (message_of bs) + 1) bs
   packet_is t =
       let m = message_of bs in
-      parts.payload-is bs m e ∙ ap (λ (b : Bool). up_to_check m (body_of m + cond b 1 (8 + only m.acknowledges 4)) bs) t
+      parts.payload_is bs m e ∙ ap (λ (b : Bool). up_to_check m (body_of m + cond b 1 (8 + only m.acknowledges 4)) bs) t
 
   sized : wrong_packet_length (message_of bs) (payload_of bs (read_of bs)) ≡ false
   sized = when_true _ _ (λ (t : (message_of bs).tunnelled ≡ true). ap bad_packet_length (packet_is t) ∙ (k.tunnel t).sized)
@@ -120,7 +120,7 @@ module _ (bs : List ℕ) (e : read_of bs ≡ as_taken (message_of bs)) where
 
   no_stray : stray (message_of bs) (check_of bs (read_of bs)) ≡ false
   unfolding stray
-  no_stray = ap₂ ◌||◌ (ap₂ ◌||◌ no_stray_address no_stray_exchange) (ap not (eq-eqb _ _ (parts.check-length bs (message_of bs) e)))
+  no_stray = ap₂ ◌||◌ (ap₂ ◌||◌ no_stray_address no_stray_exchange) (ap not (eq-eqb _ _ (parts.check_length_lem bs (message_of bs) e)))
 
   write_zero : (room : ℕ) → length bs ≤ room → first (writing_order (message_of bs) (payload_of bs (read_of bs)) (check_of bs (read_of bs)) room) ≡ 0
   unfolding writing_order

@@ -35,25 +35,25 @@ module _ (h i s d k b : List ℕ) where
   unfoldable pub five : List ℕ
   five = h ++ i ++ s ++ d ++ k ++ b
 
-  pub five-h : five ≡ [] ++ (h ++ (i ++ (s ++ (d ++ (k ++ b)))))
+  pub five_h : five ≡ [] ++ (h ++ (i ++ (s ++ (d ++ (k ++ b)))))
   unfolding five
-  five-h = simp append_assoc
+  five_h = simp append_assoc
 
-  pub five-i : five ≡ h ++ (i ++ (s ++ (d ++ (k ++ b))))
+  pub five_i : five ≡ h ++ (i ++ (s ++ (d ++ (k ++ b))))
   unfolding five
-  five-i = simp append_assoc
+  five_i = simp append_assoc
 
-  pub five-s : five ≡ (h ++ i) ++ (s ++ (d ++ (k ++ b)))
+  pub five_s : five ≡ (h ++ i) ++ (s ++ (d ++ (k ++ b)))
   unfolding five
-  five-s = simp append_assoc
+  five_s = simp append_assoc
 
-  pub five-d : five ≡ (h ++ i ++ s) ++ (d ++ (k ++ b))
+  pub five_d : five ≡ (h ++ i ++ s) ++ (d ++ (k ++ b))
   unfolding five
-  five-d = simp append_assoc
+  five_d = simp append_assoc
 
-  pub five-k : five ≡ (h ++ i ++ s ++ d) ++ (k ++ b)
+  pub five_k : five ≡ (h ++ i ++ s ++ d) ++ (k ++ b)
   unfolding five
-  five-k = simp append_assoc
+  five_k = simp append_assoc
 
 pub absent : (b : Bool) (x : ℕ) → (not b && not (eqb x 0)) ≡ false → b ≡ false → x ≡ 0
 absent true x e f = clash true refl f

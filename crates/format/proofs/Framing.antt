@@ -52,9 +52,9 @@ module _ (message rest : List ℕ) (short : length message < 65536) where
       let w : 2 + demanded stream - length stream ≡ 0 = omega arith in
       unframe_whole stream (wanted_long stream (omega arith) ∙ w) ∙ ap Whole d
 
-  pub framed-unframes : Unframes (frame_bytes message ++ rest) message rest
+  pub framed_unframes : Unframes (frame_bytes message ++ rest) message rest
   unfolding stream framed_message framed_rest
-  framed-unframes =
+  framed_unframes =
       record {
         whole = whole_is;
         message =
@@ -81,14 +81,14 @@ module _ (stream : List ℕ) (all : AllBytes stream) (n : ℕ) (e : unframe_of s
   unfolding framed_rest
   rest_is = ap (λ (u : Unframed). rest_in stream u) e
 
-  pub message-length : length (framed_message stream) ≡ n
-  message-length = ap length message_is ∙ length-take-le n (drop 2 stream) (rw (length-drop 2 stream) (let h = there in omega arith))
+  pub message_length : length (framed_message stream) ≡ n
+  message_length = ap length message_is ∙ length-take-le n (drop 2 stream) (rw (length-drop 2 stream) (let h = there in omega arith))
 
   field_is : little_bytes 2 (length (framed_message stream)) ≡ take 2 stream
   field_is =
       let h = there in
       let two : 0 + 2 ≤ length stream = omega arith in
-      ap (λ (k : ℕ). little_bytes 2 k) (message-length ∙ sym (whole_there stream n e).0)
+      ap (λ (k : ℕ). little_bytes 2 k) (message_length ∙ sym (whole_there stream n e).0)
       ∙ little_back stream all 0 2
       ∙ part_take stream 0 2 two
 

@@ -167,5 +167,5 @@ module _ (bytes : List ℕ) where
       (λ _. either (at_destination bytes (ltb-false _ _ short))
       (λ _. by_kind (ltb-false _ _ short) (message_of bytes).tunnelled refl))))))))))
 
-  pub at-fault : (first (reading_order bytes) ≡ 0 → ⊥) → AtFault bytes (first_refusal (reading_order bytes)).number (first_refusal (reading_order bytes)).offset
-  at-fault h = ⊎_elim (λ z. absurd (h z)) (λ f. f) in_order.points
+  pub at_fault : (first (reading_order bytes) ≡ 0 → ⊥) → AtFault bytes (first_refusal (reading_order bytes)).number (first_refusal (reading_order bytes)).offset
+  at_fault h = ⊎_elim (λ z. absurd (h z)) (λ f. f) in_order.points

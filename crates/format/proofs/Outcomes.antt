@@ -27,7 +27,7 @@ use Rattle.parts.specs.contracts.payload as payload
 use Rattle.parts.specs.contracts.check as check
 use Rattle.judge.specs.contracts.would_write as would
 use Rattle.writer.specs.contracts.write as write
-use Rattle.reply.specs.contracts.would_acknowledge as would-acknowledge
+use Rattle.reply.specs.contracts.would_acknowledge as would_acknowledge
 use Rattle.writer.specs.contracts.acknowledge as acknowledge
 use Rattle.reply.specs.Acknowledgement.{acknowledgement_of, acknowledgement_bytes}
 use Rattle.stream.specs.contracts.unframe as unframe
@@ -36,63 +36,63 @@ use Rattle.stream.specs.contracts.framed_rest as rest
 use Rattle.stream.specs.contracts.frame as frame
 
 module _ {M : Type 1} {𝓤 : Ura M} (𝓛 : Logic 𝓤) (at_mem : Memory → SProp 𝓤) (run : Routine → Fun 𝓤) where
-  pub one-read : (κs : Lfts 1) (bytes : Bor (List ℕ)) (r s : Reading) (x y : AtExit read.ended κs)
+  pub one_read : (κs : Lfts 1) (bytes : Bor (List ℕ)) (r s : Reading) (x y : AtExit read.ended κs)
       → let allows : Reading → AtExit read.ended κs → SProp 𝓤 = λ v e. (read.clauses 𝓛 at_mem run κs (bytes, tt)).ensures tt v e in
       ent 𝓤 (conj 𝓤 (allows r x) (allows s y)) (fact 𝓤 (r ≡ s))
-  one-read κs bytes r s x y = both 𝓤 _ _ _ (λ e f. e ∙ sym f)
+  one_read κs bytes r s x y = both 𝓤 _ _ _ (λ e f. e ∙ sym f)
 
-  pub one-read-outer : (κs : Lfts 1) (bytes : Bor (List ℕ)) (r s : OuterReading) (x y : AtExit outer.ended κs)
+  pub one_read_outer : (κs : Lfts 1) (bytes : Bor (List ℕ)) (r s : OuterReading) (x y : AtExit outer.ended κs)
       → let allows : OuterReading → AtExit outer.ended κs → SProp 𝓤 = λ v e. (outer.clauses 𝓛 at_mem run κs (bytes, tt)).ensures tt v e in
       ent 𝓤 (conj 𝓤 (allows r x) (allows s y)) (fact 𝓤 (r ≡ s))
-  one-read-outer κs bytes r s x y = both 𝓤 _ _ _ (λ e f. e ∙ sym f)
+  one_read_outer κs bytes r s x y = both 𝓤 _ _ _ (λ e f. e ∙ sym f)
 
-  pub one-payload : (κs : Lfts 1) (bytes : Bor (List ℕ)) (reading : Reading) (r s : Bor (List ℕ)) (x y : AtExit payload.ended κs)
+  pub one_payload : (κs : Lfts 1) (bytes : Bor (List ℕ)) (reading : Reading) (r s : Bor (List ℕ)) (x y : AtExit payload.ended κs)
       → let allows : Bor (List ℕ) → AtExit payload.ended κs → SProp 𝓤 = λ v e. (payload.clauses 𝓛 at_mem run κs (bytes, (reading, tt))).ensures tt v e in
       ent 𝓤 (conj 𝓤 (allows r x) (allows s y)) (fact 𝓤 (r.now ≡ s.now))
-  one-payload κs bytes reading r s x y = both 𝓤 _ _ _ (λ e f. e ∙ sym f)
+  one_payload κs bytes reading r s x y = both 𝓤 _ _ _ (λ e f. e ∙ sym f)
 
-  pub one-check : (κs : Lfts 1) (bytes : Bor (List ℕ)) (reading : Reading) (r s : Bor (List ℕ)) (x y : AtExit check.ended κs)
+  pub one_check : (κs : Lfts 1) (bytes : Bor (List ℕ)) (reading : Reading) (r s : Bor (List ℕ)) (x y : AtExit check.ended κs)
       → let allows : Bor (List ℕ) → AtExit check.ended κs → SProp 𝓤 = λ v e. (check.clauses 𝓛 at_mem run κs (bytes, (reading, tt))).ensures tt v e in
       ent 𝓤 (conj 𝓤 (allows r x) (allows s y)) (fact 𝓤 (r.now ≡ s.now))
-  one-check κs bytes reading r s x y = both 𝓤 _ _ _ (λ e f. e ∙ sym f)
+  one_check κs bytes reading r s x y = both 𝓤 _ _ _ (λ e f. e ∙ sym f)
 
-  pub one-would-write : (κs : Lfts 2) (m : Message) (p : Bor (List ℕ)) (c : Bor (List ℕ)) (room : ℕ) (r s : Writing) (x y : AtExit would.ended κs)
+  pub one_would_write : (κs : Lfts 2) (m : Message) (p : Bor (List ℕ)) (c : Bor (List ℕ)) (room : ℕ) (r s : Writing) (x y : AtExit would.ended κs)
       → let allows : Writing → AtExit would.ended κs → SProp 𝓤 = λ v e. (would.clauses 𝓛 at_mem run κs (m, (p, (c, (room, tt))))).ensures tt v e in
       ent 𝓤 (conj 𝓤 (allows r x) (allows s y)) (fact 𝓤 (r ≡ s))
-  one-would-write κs m p c room r s x y = both 𝓤 _ _ _ (λ e f. e ∙ sym f)
+  one_would_write κs m p c room r s x y = both 𝓤 _ _ _ (λ e f. e ∙ sym f)
 
-  pub one-write : (κs : Lfts 3) (m : Message) (p : Bor (List ℕ)) (c : Bor (List ℕ)) (out : Bor (List ℕ)) (r s : Writing) (x y : AtExit write.ended κs)
+  pub one_write : (κs : Lfts 3) (m : Message) (p : Bor (List ℕ)) (c : Bor (List ℕ)) (out : Bor (List ℕ)) (r s : Writing) (x y : AtExit write.ended κs)
       → let allows : Writing → AtExit write.ended κs → SProp 𝓤 = λ v e. (write.clauses 𝓛 at_mem run κs (m, (p, (c, (out, tt))))).ensures tt v e in
       ent 𝓤 (conj 𝓤 (allows r x) (allows s y)) (fact 𝓤 ((r ≡ s) × (x.1.1.1.0.now ≡ y.1.1.1.0.now)))
-  one-write κs m p c out r s x y = both 𝓤 _ _ _ (λ e f. (e.0 ∙ sym f.0, e.1 ∙ ap (λ (v : Writing). buffer_after v (bytes_of m p.now c.now) out.now) (e.0 ∙ sym f.0) ∙ sym f.1))
+  one_write κs m p c out r s x y = both 𝓤 _ _ _ (λ e f. (e.0 ∙ sym f.0, e.1 ∙ ap (λ (v : Writing). buffer_after v (bytes_of m p.now c.now) out.now) (e.0 ∙ sym f.0) ∙ sym f.1))
 
-  pub one-would-acknowledge : (κs : Lfts 0) (own sender id : ℕ) (m : Message) (room : ℕ) (r s : Writing) (x y : AtExit would-acknowledge.ended κs)
-      → let allows : Writing → AtExit would-acknowledge.ended κs → SProp 𝓤 = λ v e. (would-acknowledge.clauses 𝓛 at_mem run κs (own, (sender, (id, (m, (room, tt)))))).ensures tt v e in
+  pub one_would_acknowledge : (κs : Lfts 0) (own sender id : ℕ) (m : Message) (room : ℕ) (r s : Writing) (x y : AtExit would_acknowledge.ended κs)
+      → let allows : Writing → AtExit would_acknowledge.ended κs → SProp 𝓤 = λ v e. (would_acknowledge.clauses 𝓛 at_mem run κs (own, (sender, (id, (m, (room, tt)))))).ensures tt v e in
       ent 𝓤 (conj 𝓤 (allows r x) (allows s y)) (fact 𝓤 (r ≡ s))
-  one-would-acknowledge κs own sender id m room r s x y = both 𝓤 _ _ _ (λ e f. e ∙ sym f)
+  one_would_acknowledge κs own sender id m room r s x y = both 𝓤 _ _ _ (λ e f. e ∙ sym f)
 
-  pub one-acknowledge : (κs : Lfts 1) (own sender id : ℕ) (m : Message) (out : Bor (List ℕ)) (r s : Writing) (x y : AtExit acknowledge.ended κs)
+  pub one_acknowledge : (κs : Lfts 1) (own sender id : ℕ) (m : Message) (out : Bor (List ℕ)) (r s : Writing) (x y : AtExit acknowledge.ended κs)
       → let allows : Writing → AtExit acknowledge.ended κs → SProp 𝓤 = λ v e. (acknowledge.clauses 𝓛 at_mem run κs (own, (sender, (id, (m, (out, tt)))))).ensures tt v e in
       ent 𝓤 (conj 𝓤 (allows r x) (allows s y)) (fact 𝓤 ((r ≡ s) × (x.1.1.1.1.0.now ≡ y.1.1.1.1.0.now)))
-  one-acknowledge κs own sender id m out r s x y =
+  one_acknowledge κs own sender id m out r s x y =
       both 𝓤 _ _ _ (λ e f. (e.0 ∙ sym f.0, e.1 ∙ ap (λ (v : Writing). buffer_after v (acknowledgement_bytes (acknowledgement_of own sender id m)) out.now) (e.0 ∙ sym f.0) ∙ sym f.1))
 
-  pub one-unframe : (κs : Lfts 1) (stream : Bor (List ℕ)) (r s : Unframed) (x y : AtExit unframe.ended κs)
+  pub one_unframe : (κs : Lfts 1) (stream : Bor (List ℕ)) (r s : Unframed) (x y : AtExit unframe.ended κs)
       → let allows : Unframed → AtExit unframe.ended κs → SProp 𝓤 = λ v e. (unframe.clauses 𝓛 at_mem run κs (stream, tt)).ensures tt v e in
       ent 𝓤 (conj 𝓤 (allows r x) (allows s y)) (fact 𝓤 (r ≡ s))
-  one-unframe κs stream r s x y = both 𝓤 _ _ _ (λ e f. e ∙ sym f)
+  one_unframe κs stream r s x y = both 𝓤 _ _ _ (λ e f. e ∙ sym f)
 
-  pub one-framed-message : (κs : Lfts 1) (stream : Bor (List ℕ)) (r s : Bor (List ℕ)) (x y : AtExit message.ended κs)
+  pub one_framed_message : (κs : Lfts 1) (stream : Bor (List ℕ)) (r s : Bor (List ℕ)) (x y : AtExit message.ended κs)
       → let allows : Bor (List ℕ) → AtExit message.ended κs → SProp 𝓤 = λ v e. (message.clauses 𝓛 at_mem run κs (stream, tt)).ensures tt v e in
       ent 𝓤 (conj 𝓤 (allows r x) (allows s y)) (fact 𝓤 (r.now ≡ s.now))
-  one-framed-message κs stream r s x y = both 𝓤 _ _ _ (λ e f. e ∙ sym f)
+  one_framed_message κs stream r s x y = both 𝓤 _ _ _ (λ e f. e ∙ sym f)
 
-  pub one-framed-rest : (κs : Lfts 1) (stream : Bor (List ℕ)) (r s : Bor (List ℕ)) (x y : AtExit rest.ended κs)
+  pub one_framed_rest : (κs : Lfts 1) (stream : Bor (List ℕ)) (r s : Bor (List ℕ)) (x y : AtExit rest.ended κs)
       → let allows : Bor (List ℕ) → AtExit rest.ended κs → SProp 𝓤 = λ v e. (rest.clauses 𝓛 at_mem run κs (stream, tt)).ensures tt v e in
       ent 𝓤 (conj 𝓤 (allows r x) (allows s y)) (fact 𝓤 (r.now ≡ s.now))
-  one-framed-rest κs stream r s x y = both 𝓤 _ _ _ (λ e f. e ∙ sym f)
+  one_framed_rest κs stream r s x y = both 𝓤 _ _ _ (λ e f. e ∙ sym f)
 
-  pub one-frame : (κs : Lfts 2) (m : Bor (List ℕ)) (out : Bor (List ℕ)) (r s : Writing) (x y : AtExit frame.ended κs)
+  pub one_frame : (κs : Lfts 2) (m : Bor (List ℕ)) (out : Bor (List ℕ)) (r s : Writing) (x y : AtExit frame.ended κs)
       → let allows : Writing → AtExit frame.ended κs → SProp 𝓤 = λ v e. (frame.clauses 𝓛 at_mem run κs (m, (out, tt))).ensures tt v e in
       ent 𝓤 (conj 𝓤 (allows r x) (allows s y)) (fact 𝓤 ((r ≡ s) × (x.1.0.now ≡ y.1.0.now)))
-  one-frame κs m out r s x y = both 𝓤 _ _ _ (λ e f. (e.0 ∙ sym f.0, e.1 ∙ ap (λ (v : Writing). buffer_after v (frame_bytes m.now) out.now) (e.0 ∙ sym f.0) ∙ sym f.1))
+  one_frame κs m out r s x y = both 𝓤 _ _ _ (λ e f. (e.0 ∙ sym f.0, e.1 ∙ ap (λ (v : Writing). buffer_after v (frame_bytes m.now) out.now) (e.0 ∙ sym f.0) ∙ sym f.1))

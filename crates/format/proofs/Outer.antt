@@ -29,7 +29,7 @@ pub record Protects (bytes : List ℕ) (start len : ℕ) : Type 0 where
   -- it runs to the end
   pub whole : start + len ≡ length bytes
   -- of an encrypted message it starts after the key id, and has at least the body and the check
-  pub after-key : encrypted (message_of bytes) ≡ true → start ≡ body_of (message_of bytes)
+  pub after_key : encrypted (message_of bytes) ≡ true → start ≡ body_of (message_of bytes)
   pub general : encrypted (message_of bytes) ≡ true → (message_of bytes).tunnelled ≡ false → 28 ≤ len
   pub tunnel : encrypted (message_of bytes) ≡ true → (message_of bytes).tunnelled ≡ true → 22 ≤ len
   -- of a plain message it is empty
@@ -44,7 +44,7 @@ pub protects : (bytes : List ℕ) (start len : ℕ) → first (outer_order bytes
 protects bytes start len z s l =
     record {
       whole = go (encrypted (message_of bytes)) refl;
-      after-key = λ e. sym s ∙ starts true e;
+      after_key = λ e. sym s ∙ starts true e;
       general = λ e t.
           let a = starts true e in
           let b : only (encrypted (message_of bytes)) 20 ≡ 20 = ap (λ (k : Bool). only k 20) e in

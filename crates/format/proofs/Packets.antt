@@ -25,7 +25,7 @@ use Rattle.judge.specs.Writing.{writing_order, write_of}
 use Rattle.judge.proofs.Clear.{ClearWrite, written, written_sized}
 use Rattle.format.proofs.Accepted.{accept}
 use Rattle.format.proofs.Sized.{Sized}
-use Rattle.format.proofs.Taken.{payload-is, payload_length}
+use Rattle.format.proofs.Taken.{payload_is, payload_length}
 use Rattle.format.proofs.WriteRead.{read_refused}
 
 -- ---- whole packets
@@ -88,7 +88,7 @@ no_tail bytes m e t =
     let l = payload_length bytes m e in
     let f = fits bytes m e in
     record {
-      stands = payload-is bytes m e ∙ ap (λ (n : ℕ). up_to_check m n bytes) h;
+      stands = payload_is bytes m e ∙ ap (λ (n : ℕ). up_to_check m n bytes) h;
       whole = passed_is_whole packet (and_false m.tunnelled _ k.packet t) (and_false m.tunnelled _ s t);
       ends = omega arith;
     }

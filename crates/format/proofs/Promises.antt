@@ -1,7 +1,7 @@
 -- What the message format promises, each as a theorem of its own. The laws behind them are in the other files of this folder. Assumes nothing.
 
 -- Only one outcome fits each public contract.
-pub use Rattle.format.proofs.Outcomes.{one-read, one-read-outer, one-payload, one-check, one-would-write, one-write, one-would-acknowledge, one-acknowledge, one-unframe, one-framed-message, one-framed-rest, one-frame}
+pub use Rattle.format.proofs.Outcomes.{one_read, one_read_outer, one_payload, one_check, one_would_write, one_write, one_would_acknowledge, one_acknowledge, one_unframe, one_framed_message, one_framed_rest, one_frame}
 -- The value that bytes say, and so every value that reading takes, is within the types of its fields.
 pub use Rattle.format.proofs.Sized.{sized_of, read_is_sized}
 use Prim.Native.Nat.{ℕ, zero, suc, ◌+◌, ◌-◌, ◌≤◌, ◌<◌}
@@ -48,7 +48,7 @@ use Rattle.format.proofs.Accepted.{accept}
 use Rattle.format.proofs.Sized.{Sized}
 use Rattle.format.proofs.WriteRead.{SameRead, write_read}
 use Rattle.format.proofs.Framing as framing
-use Rattle.format.proofs.Offsets.{AtFault, at-fault, within}
+use Rattle.format.proofs.Offsets.{AtFault, at_fault, within}
 use Rattle.format.proofs.Packets.{WholePacket, whole_passes, passed_is_whole, NoTail, no_tail, LengthRefused, padded, cut}
 use Rattle.format.proofs.Outer.{Protects, outer_place, protects}
 
@@ -131,44 +131,44 @@ found r order h = holds_first r order (above h.1) h.0
 -- Number and offset are those of that condition.
 module _ (bytes : List ℕ) (r : Refusal) where
   -- Reading.
-  pub reading-refused-first : read_of bytes ≡ Reading.Refused r → FirstToHold r (reading_order bytes)
+  pub reading_refused_first : read_of bytes ≡ Reading.Refused r → FirstToHold r (reading_order bytes)
   unfolding read_of
-  reading-refused-first e = found r (reading_order bytes) (reading_refusal _ r (message_of bytes) e)
+  reading_refused_first e = found r (reading_order bytes) (reading_refusal _ r (message_of bytes) e)
 
-  pub reading-first-refused : 0 < r.number → FirstToHold r (reading_order bytes) → read_of bytes ≡ Reading.Refused r
+  pub reading_first_refused : 0 < r.number → FirstToHold r (reading_order bytes) → read_of bytes ≡ Reading.Refused r
   unfolding read_of
-  reading-first-refused l w = ap (λ (q : Refusal). reading q (message_of bytes)) (first_holds r (reading_order bytes) w) ∙ reading_hit r (message_of bytes) (above l)
+  reading_first_refused l w = ap (λ (q : Refusal). reading q (message_of bytes)) (first_holds r (reading_order bytes) w) ∙ reading_hit r (message_of bytes) (above l)
 
   -- Outer reading: its order is the front of reading's.
-  pub outer-refused-first : outer_of bytes ≡ OuterReading.Refused r → FirstToHold r (outer_order bytes (message_of bytes))
+  pub outer_refused_first : outer_of bytes ≡ OuterReading.Refused r → FirstToHold r (outer_order bytes (message_of bytes))
   unfolding outer_of
-  outer-refused-first e = found r (outer_order bytes (message_of bytes)) (outer_refusal _ r _ _ e)
+  outer_refused_first e = found r (outer_order bytes (message_of bytes)) (outer_refusal _ r _ _ e)
 
-  pub outer-first-refused : 0 < r.number → FirstToHold r (outer_order bytes (message_of bytes)) → outer_of bytes ≡ OuterReading.Refused r
+  pub outer_first_refused : 0 < r.number → FirstToHold r (outer_order bytes (message_of bytes)) → outer_of bytes ≡ OuterReading.Refused r
   unfolding outer_of
-  outer-first-refused l w =
+  outer_first_refused l w =
       ap (λ (q : Refusal). outer_reading q (start_of bytes (message_of bytes)) (length bytes - start_of bytes (message_of bytes))) (first_holds r (outer_order bytes (message_of bytes)) w)
       ∙ outer_hit r _ _ (above l)
 
 -- Writing.
 module _ (m : Message) (payload check : List ℕ) (room n : ℕ) where
-  pub writing-refused-first : write_of m payload check room ≡ Writing.Refused (refusal n) → FirstToHold (refusal n) (writing_order m payload check room)
+  pub writing_refused_first : write_of m payload check room ≡ Writing.Refused (refusal n) → FirstToHold (refusal n) (writing_order m payload check room)
   unfolding write_of writing_order
-  writing-refused-first e = number_first n (writing_order m payload check room) refl (writing_number_lem _ n (total m payload) e)
+  writing_refused_first e = number_first n (writing_order m payload check room) refl (writing_number_lem _ n (total m payload) e)
 
-  pub writing-first-refused : 0 < n → FirstToHold (refusal n) (writing_order m payload check room) → write_of m payload check room ≡ Writing.Refused (refusal n)
+  pub writing_first_refused : 0 < n → FirstToHold (refusal n) (writing_order m payload check room) → write_of m payload check room ≡ Writing.Refused (refusal n)
   unfolding write_of
-  writing-first-refused l w = ap (λ (k : ℕ). writing k (total m payload)) (first_number n (writing_order m payload check room) w) ∙ writing_hit n (total m payload) l
+  writing_first_refused l w = ap (λ (k : ℕ). writing k (total m payload)) (first_number n (writing_order m payload check room) w) ∙ writing_hit n (total m payload) l
 
 -- Framing.
 module _ (message : List ℕ) (room n : ℕ) where
-  pub framing-refused-first : frame_of message room ≡ Writing.Refused (refusal n) → FirstToHold (refusal n) (framing_order message room)
+  pub framing_refused_first : frame_of message room ≡ Writing.Refused (refusal n) → FirstToHold (refusal n) (framing_order message room)
   unfolding frame_of framing_order
-  framing-refused-first e = number_first n (framing_order message room) refl (writing_number_lem _ n (2 + length message) e)
+  framing_refused_first e = number_first n (framing_order message room) refl (writing_number_lem _ n (2 + length message) e)
 
-  pub framing-first-refused : 0 < n → FirstToHold (refusal n) (framing_order message room) → frame_of message room ≡ Writing.Refused (refusal n)
+  pub framing_first_refused : 0 < n → FirstToHold (refusal n) (framing_order message room) → frame_of message room ≡ Writing.Refused (refusal n)
   unfolding frame_of
-  framing-first-refused l w = ap (λ (k : ℕ). writing k (2 + length message)) (first_number n (framing_order message room) w) ∙ writing_hit n (2 + length message) l
+  framing_first_refused l w = ap (λ (k : ℕ). writing k (2 + length message)) (first_number n (framing_order message room) w) ∙ writing_hit n (2 + length message) l
 
 -- ---- where a refusal points
 
@@ -178,7 +178,7 @@ pub refusal_points_at_the_fault : (bytes : List ℕ) (r : Refusal) → read_of b
 unfolding read_of
 refusal_points_at_the_fault bytes r e =
     let p = reading_refusal _ r (message_of bytes) e in
-    subst (λ (q : Refusal). AtFault bytes q.number q.offset) p.0 (at-fault bytes (λ z. above p.1 (sym (ap number_of p.0) ∙ z)))
+    subst (λ (q : Refusal). AtFault bytes q.number q.offset) p.0 (at_fault bytes (λ z. above p.1 (sym (ap number_of p.0) ∙ z)))
 
 -- It is never past the end of the bytes, and from 7 on it is within them.
 pub offset_is_within : (bytes : List ℕ) (r : Refusal) → read_of bytes ≡ Reading.Refused r → (r.offset ≤ length bytes) × (7 ≤ r.number → r.offset < length bytes)
@@ -274,7 +274,7 @@ protected_part bytes start len e =
 
 -- Framed, then unframed: the message and what follows it, for every message that is framed.
 pub framed_then_unframed : (message rest : List ℕ) (room n : ℕ) → frame_of message room ≡ Writing.Written n → framing.Unframes (frame_bytes message ++ rest) message rest
-framed_then_unframed message rest room n e = framing.framed-unframes message rest (framing.framed_short message room n e)
+framed_then_unframed message rest room n e = framing.framed_unframes message rest (framing.framed_short message room n e)
 
 -- Unframed, then framed: the same bytes; and a message of up to 1,232 bytes is framed where there is room.
 pub unframed_then_framed : (stream : List ℕ) → AllBytes stream → (n : ℕ) → unframe_of stream ≡ Whole n → frame_bytes (framed_message stream) ++ framed_rest stream ≡ stream

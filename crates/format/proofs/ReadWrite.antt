@@ -21,7 +21,7 @@ use Rattle.message.specs.declared.value.Message.{Message}
 use Rattle.message.specs.Answers.{as_taken}
 use Rattle.reader.proofs.Clear.{Clear, taken, fits}
 use Rattle.format.proofs.HeaderBack.{header_back, exchange_back}
-use Rattle.format.proofs.Taken.{payload-is, check_is}
+use Rattle.format.proofs.Taken.{payload_is, check_is}
 
 -- parts that follow one another
 join : (bs : List ℕ) (s n w : ℕ) {a b : List ℕ} → a ≡ part bs s n → b ≡ part bs (s + n) w → a ++ b ≡ part bs s (n + w)
@@ -97,7 +97,7 @@ module _ (bs : List ℕ) (h : AllBytes bs) where
       let m = message_of bs in
       let f = fits bs m e in
       let g : 0 + head_length m ≤ length bs = omega arith in
-      ap₂ (λ (p c : List ℕ). head_bytes m ++ p ++ c) (payload-is bs m e) (check_is bs m e)
+      ap₂ (λ (p c : List ℕ). head_bytes m ++ p ++ c) (payload_is bs m e) (check_is bs m e)
       ∙ ap (λ (l : List ℕ). l ++ up_to_check m (head_length m) bs ++ drop (length bs - check_length m) bs)
       (head_back (taken bs m e).1 ∙ part_take bs 0 (head_length m) g)
       ∙ rejoin bs (head_length m) (check_length m) f

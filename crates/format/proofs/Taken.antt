@@ -27,9 +27,9 @@ pub as_taken_lem : (bytes : List ℕ) (m : Message) (h : Head) → read_of bytes
 as_taken_lem bytes m h e = e ∙ ap (Taken m) (head_taken bytes m h e)
 
 module _ (bytes : List ℕ) (m : Message) (e : read_of bytes ≡ as_taken m) where
-  pub payload-is : payload_of bytes (read_of bytes) ≡ up_to_check m (head_length m) bytes
+  pub payload_is : payload_of bytes (read_of bytes) ≡ up_to_check m (head_length m) bytes
   unfolding payload_of
-  payload-is =
+  payload_is =
       ap (λ (r : Reading). payload_of bytes r) e
       ∙ ap (λ (b : Bool). part_of b (up_to_check m (head_length m) bytes)) (le-leb _ _ (fits bytes m e))
 
@@ -41,10 +41,10 @@ module _ (bytes : List ℕ) (m : Message) (e : read_of bytes ≡ as_taken m) whe
 
   pub payload_length : length (payload_of bytes (read_of bytes)) ≡ length bytes - check_length m - head_length m
   payload_length =
-      ap length payload-is ∙ length-take-le _ _ (rw (length-drop (head_length m) bytes) (let h = fits bytes m e in omega arith))
+      ap length payload_is ∙ length-take-le _ _ (rw (length-drop (head_length m) bytes) (let h = fits bytes m e in omega arith))
 
-  pub check-length : length (check_of bytes (read_of bytes)) ≡ check_length m
-  check-length = ap length check_is ∙ length-drop (length bytes - check_length m) bytes ∙ (let h = fits bytes m e in omega arith)
+  pub check_length_lem : length (check_of bytes (read_of bytes)) ≡ check_length m
+  check_length_lem = ap length check_is ∙ length-drop (length bytes - check_length m) bytes ∙ (let h = fits bytes m e in omega arith)
 
   -- the header h at the front of the bytes is that of the value
   pub header_is : (h : ℕ) → h ≡ little (front 2 bytes) → h < 65536 → h ≡ header_of m

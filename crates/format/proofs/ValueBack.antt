@@ -18,7 +18,7 @@ use Rattle.message.proofs.Low.{version_low, encrypt_low}
 use Rattle.message.proofs.Lengths.{length_address}
 use Rattle.format.proofs.HeaderForth.{Header, header_forth, exchange_low, exchange_forth}
 use Rattle.format.proofs.Sized.{Sized}
-use Rattle.format.proofs.Between.{between, little_field, big_field, five, five-h, five-i, five-s, five-d, five-k, absent, zero_of, beyond}
+use Rattle.format.proofs.Between.{between, little_field, big_field, five, five_h, five_i, five_s, five_d, five_k, absent, zero_of, beyond}
 
 module _ (m : Message) (p c : List ℕ) (room : ℕ) (z : Sized m) (k : ClearWrite m p c room) where
   -- what follows the address fields
@@ -29,16 +29,16 @@ module _ (m : Message) (p c : List ℕ) (room : ℕ) (z : Sized m) (k : ClearWri
   unfolding bytes_of head_bytes address_bytes five body
   shape = simp append_assoc
 
-  pub shape-2 : bytes_of m p c ≡ address_bytes m ++ (body ++ (p ++ c))
+  pub shape_2 : bytes_of m p c ≡ address_bytes m ++ (body ++ (p ++ c))
   unfolding bytes_of head_bytes body
-  shape-2 = simp append_assoc
+  shape_2 = simp append_assoc
 
   head : Header (header_of m) m
   head = header_forth m (version_low m.version k.version) (encrypt_low m.encrypt k.encrypt)
 
   header_is : header (bytes_of m p c) ≡ header_of m
   header_is =
-      ap little (between (bytes_of m p c) [] (little_bytes 2 (header_of m)) _ 0 2 (shape ∙ five-h _ _ _ _ _ _) refl refl)
+      ap little (between (bytes_of m p c) [] (little_bytes 2 (header_of m)) _ 0 2 (shape ∙ five_h _ _ _ _ _ _) refl refl)
       ∙ little_of 2 (header_of m) head.low
 
   pub found : Header (header (bytes_of m p c)) m
@@ -46,7 +46,7 @@ module _ (m : Message) (p c : List ℕ) (room : ℕ) (z : Sized m) (k : ClearWri
 
   id_is : little (part (bytes_of m p c) 2 4) ≡ m.id
   id_is =
-      ap little (between (bytes_of m p c) (little_bytes 2 (header_of m)) (little_bytes 4 m.id) _ 2 4 (shape ∙ five-i _ _ _ _ _ _) refl refl)
+      ap little (between (bytes_of m p c) (little_bytes 2 (header_of m)) (little_bytes 4 m.id) _ 2 4 (shape ∙ five_i _ _ _ _ _ _) refl refl)
       ∙ little_of 4 m.id z.id
 
   stray_a : (not m.sourced && not (eqb m.source 0) || (not m.destined && not (eqb m.destination 0))) ≡ false
@@ -54,17 +54,17 @@ module _ (m : Message) (p c : List ℕ) (room : ℕ) (z : Sized m) (k : ClearWri
 
   source_is : big (part (bytes_of m p c) 6 (only m.sourced 8)) ≡ m.source
   source_is =
-      ap big (between (bytes_of m p c) (little_bytes 2 (header_of m) ++ little_bytes 4 m.id) (big_bytes (only m.sourced 8) m.source) _ 6 (only m.sourced 8) (shape ∙ five-s _ _ _ _ _ _) refl (length_big (only m.sourced 8) m.source))
+      ap big (between (bytes_of m p c) (little_bytes 2 (header_of m) ++ little_bytes 4 m.id) (big_bytes (only m.sourced 8) m.source) _ 6 (only m.sourced 8) (shape ∙ five_s _ _ _ _ _ _) refl (length_big (only m.sourced 8) m.source))
       ∙ big_field m.sourced 8 m.source (absent _ _ (or_false (not m.sourced && not (eqb m.source 0)) _ stray_a).0) z.source
 
   destination_is : big (part (bytes_of m p c) (destination_at m.sourced) (only m.destined 8)) ≡ m.destination
   destination_is =
-      ap big (between (bytes_of m p c) (little_bytes 2 (header_of m) ++ little_bytes 4 m.id ++ big_bytes (only m.sourced 8) m.source) (big_bytes (only m.destined 8) m.destination) _ (destination_at m.sourced) (only m.destined 8) (shape ∙ five-d _ _ _ _ _ _) (omega (arith, length_big (only m.sourced 8) m.source)) (length_big (only m.destined 8) m.destination))
+      ap big (between (bytes_of m p c) (little_bytes 2 (header_of m) ++ little_bytes 4 m.id ++ big_bytes (only m.sourced 8) m.source) (big_bytes (only m.destined 8) m.destination) _ (destination_at m.sourced) (only m.destined 8) (shape ∙ five_d _ _ _ _ _ _) (omega (arith, length_big (only m.sourced 8) m.source)) (length_big (only m.destined 8) m.destination))
       ∙ big_field m.destined 8 m.destination (absent _ _ (or_false (not m.sourced && not (eqb m.source 0)) _ stray_a).1) z.destination
 
   key_is : little (part (bytes_of m p c) (key_at m.sourced m.destined) (only (encrypted m) 2)) ≡ m.key
   key_is =
-      ap little (between (bytes_of m p c) (little_bytes 2 (header_of m) ++ little_bytes 4 m.id ++ big_bytes (only m.sourced 8) m.source ++ big_bytes (only m.destined 8) m.destination) (little_bytes (only (encrypted m) 2) m.key) _ (key_at m.sourced m.destined) (only (encrypted m) 2) (shape ∙ five-k _ _ _ _ _ _) (simp (length-append, length_big) (omega arith)) (length_little (only (encrypted m) 2) m.key))
+      ap little (between (bytes_of m p c) (little_bytes 2 (header_of m) ++ little_bytes 4 m.id ++ big_bytes (only m.sourced 8) m.source ++ big_bytes (only m.destined 8) m.destination) (little_bytes (only (encrypted m) 2) m.key) _ (key_at m.sourced m.destined) (only (encrypted m) 2) (shape ∙ five_k _ _ _ _ _ _) (simp (length-append, length_big) (omega arith)) (length_little (only (encrypted m) 2) m.key))
       ∙ little_field (encrypted m) 2 m.key (absent _ _ (or_false (not m.sourced && not (eqb m.source 0) || (not m.destined && not (eqb m.destination 0))) _ k.address).1) z.key
 
   place_is : body_by (header (bytes_of m p c)) ≡ body_of m
@@ -89,17 +89,17 @@ module _ (m : Message) (p c : List ℕ) (room : ℕ) (z : Sized m) (k : ClearWri
   unfolding body
   inner t j w =
       beyond (bytes_of m p c) (address_bytes m) (exchange_bytes m ++ (p ++ c)) (body_of m) j w
-      (shape-2 ∙ ap (λ (b : Bool). address_bytes m ++ (cond b (little_bytes 1 1) (exchange_bytes m) ++ (p ++ c))) t)
+      (shape_2 ∙ ap (λ (b : Bool). address_bytes m ++ (cond b (little_bytes 1 1) (exchange_bytes m) ++ (p ++ c))) t)
       (length_address m)
 
   inner_shape : exchange_bytes m ++ (p ++ c) ≡ five (little_bytes 1 (exchange_header_of m)) (little_bytes 1 m.kind) (little_bytes 2 m.exchange) (little_bytes 4 m.profile) (little_bytes (only m.acknowledges 4) m.acknowledged) (p ++ c)
   unfolding exchange_bytes five
   inner_shape = simp append_assoc
 
-  pub exchange-is : m.tunnelled ≡ false → exchange_header (bytes_of m p c) ≡ exchange_header_of m
-  exchange-is t =
+  pub exchange_is : m.tunnelled ≡ false → exchange_header (bytes_of m p c) ≡ exchange_header_of m
+  exchange_is t =
       ap₂ (λ (b : Bool) (n : ℕ). little (part (bytes_of m p c) n (only (not b) 1))) (found.tunnelled ∙ t) (place_is ∙ sym (add-zero (body_of m)))
-      ∙ ap little (inner t 0 1 ∙ between _ [] (little_bytes 1 (exchange_header_of m)) _ 0 1 (inner_shape ∙ five-h _ _ _ _ _ _) refl refl)
+      ∙ ap little (inner t 0 1 ∙ between _ [] (little_bytes 1 (exchange_header_of m)) _ 0 1 (inner_shape ∙ five_h _ _ _ _ _ _) refl refl)
       ∙ little_of 1 (exchange_header_of m) (exchange_low m)
 
   no_exchange_lem : m.tunnelled ≡ true → exchange_header (bytes_of m p c) ≡ 0
@@ -111,23 +111,23 @@ module _ (m : Message) (p c : List ℕ) (room : ℕ) (z : Sized m) (k : ClearWri
       let f = exchange_forth m in
       let x = little_bytes 1 (exchange_header_of m) in
       record {
-        initiator = ap (λ (n : ℕ). bit n 0) (exchange-is t) ∙ f.initiator;
-        acknowledges = ap (λ (n : ℕ). bit n 1) (exchange-is t) ∙ f.acknowledges;
-        wants = ap (λ (n : ℕ). bit n 2) (exchange-is t) ∙ f.wants;
+        initiator = ap (λ (n : ℕ). bit n 0) (exchange_is t) ∙ f.initiator;
+        acknowledges = ap (λ (n : ℕ). bit n 1) (exchange_is t) ∙ f.acknowledges;
+        wants = ap (λ (n : ℕ). bit n 2) (exchange_is t) ∙ f.wants;
         kind =
             ap (λ (b : Bool). little (part bs (body_of m + 1) (only (not b) 1))) t
-            ∙ ap little (inner t 1 1 ∙ between _ x (little_bytes 1 m.kind) _ 1 1 (inner_shape ∙ five-i _ _ _ _ _ _) refl refl)
+            ∙ ap little (inner t 1 1 ∙ between _ x (little_bytes 1 m.kind) _ 1 1 (inner_shape ∙ five_i _ _ _ _ _ _) refl refl)
             ∙ little_of 1 m.kind z.kind;
         exchange =
             ap (λ (b : Bool). little (part bs (body_of m + 2) (only (not b) 2))) t
-            ∙ ap little (inner t 2 2 ∙ between _ (x ++ little_bytes 1 m.kind) (little_bytes 2 m.exchange) _ 2 2 (inner_shape ∙ five-s _ _ _ _ _ _) refl refl)
+            ∙ ap little (inner t 2 2 ∙ between _ (x ++ little_bytes 1 m.kind) (little_bytes 2 m.exchange) _ 2 2 (inner_shape ∙ five_s _ _ _ _ _ _) refl refl)
             ∙ little_of 2 m.exchange z.exchange;
         profile =
             ap (λ (b : Bool). little (part bs (body_of m + 4) (only (not b) 4))) t
-            ∙ ap little (inner t 4 4 ∙ between _ (x ++ little_bytes 1 m.kind ++ little_bytes 2 m.exchange) (little_bytes 4 m.profile) _ 4 4 (inner_shape ∙ five-d _ _ _ _ _ _) refl refl)
+            ∙ ap little (inner t 4 4 ∙ between _ (x ++ little_bytes 1 m.kind ++ little_bytes 2 m.exchange) (little_bytes 4 m.profile) _ 4 4 (inner_shape ∙ five_d _ _ _ _ _ _) refl refl)
             ∙ little_of 4 m.profile z.profile;
         acknowledged =
-            ap little (inner t 8 (only m.acknowledges 4) ∙ between _ (x ++ little_bytes 1 m.kind ++ little_bytes 2 m.exchange ++ little_bytes 4 m.profile) (little_bytes (only m.acknowledges 4) m.acknowledged) _ 8 (only m.acknowledges 4) (inner_shape ∙ five-k _ _ _ _ _ _) refl (length_little (only m.acknowledges 4) m.acknowledged))
+            ap little (inner t 8 (only m.acknowledges 4) ∙ between _ (x ++ little_bytes 1 m.kind ++ little_bytes 2 m.exchange ++ little_bytes 4 m.profile) (little_bytes (only m.acknowledges 4) m.acknowledged) _ 8 (only m.acknowledges 4) (inner_shape ∙ five_k _ _ _ _ _ _) refl (length_little (only m.acknowledges 4) m.acknowledged))
             ∙ little_field m.acknowledges 4 m.acknowledged (absent _ _ ackless) z.acknowledged;
       }
 

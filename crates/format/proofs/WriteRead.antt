@@ -30,7 +30,7 @@ use Rattle.message.proofs.Lengths.{length_address, length_head, length_bytes, to
 use Rattle.format.proofs.HeaderForth.{exchange_clean}
 use Rattle.format.proofs.Sized.{Sized}
 use Rattle.format.proofs.Taken as parts
-use Rattle.format.proofs.ValueBack.{body, found, exchange-is, shape-2, message_is}
+use Rattle.format.proofs.ValueBack.{body, found, exchange_is, shape_2, message_is}
 
 -- the fixed part is within the message, and so is an acknowledged id
 fixed_by : (t a : Bool) (body check n : ℕ) → (t ≡ true → 0 < n) → body + cond t 2 8 + check ≤ body + cond t 1 (8 + only a 4) + n + check
@@ -63,12 +63,12 @@ module _ (m : Message) (p c : List ℕ) (room : ℕ) (z : Sized m) (k : ClearWri
   exchange_none : m.tunnelled ≡ false → first_refusal (exchange_order (exchange_header (bytes_of m p c)) (length (bytes_of m p c)) m) ≡ first_refusal []
   unfolding exchange_order
   exchange_none t =
-      let x : bad_exchange (exchange_header (bytes_of m p c)) ≡ false = ap bad_exchange (exchange-is m p c room z k t) ∙ exchange_clean m in
+      let x : bad_exchange (exchange_header (bytes_of m p c)) ≡ false = ap bad_exchange (exchange_is m p c room z k t) ∙ exchange_clean m in
       simp (x, k.asks, room_by m.tunnelled m.acknowledges (body_of m) (check_length m) (length p) (length (bytes_of m p c)) t length_is)
 
   shape_t : m.tunnelled ≡ true → bytes_of m p c ≡ address_bytes m ++ (1 ∷ (p ++ c))
   unfolding body
-  shape_t t = shape-2 m p c room z k ∙ ap (λ (b : Bool). address_bytes m ++ (cond b (little_bytes 1 1) (exchange_bytes m) ++ (p ++ c))) t
+  shape_t t = shape_2 m p c room z k ∙ ap (λ (b : Bool). address_bytes m ++ (cond b (little_bytes 1 1) (exchange_bytes m) ++ (p ++ c))) t
 
   byte_at : m.tunnelled ≡ true → (j : ℕ) → get_or (bytes_of m p c) (body_of m + j) 0 ≡ get_or (1 ∷ (p ++ c)) j 0
   byte_at t j =
@@ -126,7 +126,7 @@ module _ (m : Message) (p c : List ℕ) (room : ℕ) (z : Sized m) (k : ClearWri
   read_refused = by_length true
 
   payload_same : wrong_packet_length m p ≡ false → payload_of (bytes_of m p c) (read_of (bytes_of m p c)) ≡ p
-  payload_same e = parts.payload-is (bytes_of m p c) m (read_is e) ∙ between_is
+  payload_same e = parts.payload_is (bytes_of m p c) m (read_is e) ∙ between_is
 
   check_same : wrong_packet_length m p ≡ false → check_of (bytes_of m p c) (read_of (bytes_of m p c)) ≡ c
   unfolding bytes_of

@@ -1,7 +1,7 @@
 -- What the boundary of `reception` promises of the places: a message with a verdict was read, so they say its parts. Assumes nothing.
 
 -- Only one outcome fits each exported function.
-pub use Rattle.gateway.proofs.Outcomes.{one-receive, one-remove}
+pub use Rattle.gateway.proofs.Outcomes.{one_receive, one_remove}
 use Prim.Native.Nat.{ℕ}
 use mathlib.Core.Path.{◌≡◌}
 use mathlib.Core.List.{List}
@@ -12,9 +12,9 @@ use Rattle.reader.specs.Reading.{read_of}
 use Rattle.parts.specs.Parts.{payload_of, check_of}
 use Rattle.reception.specs.Receiving.{Beside, receive_of}
 use Rattle.admission.specs.declared.answers.Received.TheVariants as Received
-use Rattle.reception.proofs.WasRead.{new-was-read, duplicate-was-read}
+use Rattle.reception.proofs.WasRead.{new_was_read, duplicate_was_read}
 use Rattle.places.specs.Fields.{fields_of}
-use Rattle.places.proofs.Promises.{payload-there, check-there}
+use Rattle.places.proofs.Promises.{payload_there, check_there}
 
 -- the payload or the packet is where places 10 and 11 say, and the check where places 12 and 13 say
 abbrev pub PartsThere : List ℕ → List ℕ → Type 0
@@ -23,12 +23,12 @@ PartsThere bytes fields =
     × (take (get_or fields 13 0) (drop (get_or fields 12 0) bytes) ≡ check_of bytes (read_of bytes))
 
 module _ (b : Beside) (bytes t : List ℕ) (m : Message) (h : Head) (reply : ℕ) where
-  pub new-parts : receive_of b bytes t ≡ Received.New m h reply → PartsThere bytes (fields_of m h (length bytes) 1 reply)
-  new-parts e =
-      let r = new-was-read b bytes t m h reply e in
-      (payload-there bytes m h r 1 reply, check-there bytes m h r 1 reply)
+  pub new_parts : receive_of b bytes t ≡ Received.New m h reply → PartsThere bytes (fields_of m h (length bytes) 1 reply)
+  new_parts e =
+      let r = new_was_read b bytes t m h reply e in
+      (payload_there bytes m h r 1 reply, check_there bytes m h r 1 reply)
 
-  pub duplicate-parts : receive_of b bytes t ≡ Received.Duplicate m h reply → PartsThere bytes (fields_of m h (length bytes) 2 reply)
-  duplicate-parts e =
-      let r = duplicate-was-read b bytes t m h reply e in
-      (payload-there bytes m h r 2 reply, check-there bytes m h r 2 reply)
+  pub duplicate_parts : receive_of b bytes t ≡ Received.Duplicate m h reply → PartsThere bytes (fields_of m h (length bytes) 2 reply)
+  duplicate_parts e =
+      let r = duplicate_was_read b bytes t m h reply e in
+      (payload_there bytes m h r 2 reply, check_there bytes m h r 2 reply)

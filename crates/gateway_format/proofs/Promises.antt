@@ -1,7 +1,7 @@
 -- What the boundary of `format` promises: what was read can be written. Assumes nothing.
 
 -- Only one outcome fits each exported function.
-pub use Rattle.gateway_format.proofs.Outcomes.{one-read-outer, one-read, one-write, one-unframe, one-frame}
+pub use Rattle.gateway_format.proofs.Outcomes.{one_read_outer, one_read, one_write, one_unframe, one_frame}
 use Prim.Native.Nat.{ℕ, ◌≤◌}
 use mathlib.Core.Path.{◌≡◌, sym, ap, ap₂, ◌∙◌}
 use mathlib.Core.Bool.{true}
@@ -22,7 +22,7 @@ use Rattle.places.specs.Fields.{fields_of}
 use Rattle.values.specs.Values.{fits, value_from}
 use Rattle.values.specs.declared.Loaded.{Loaded}
 use Rattle.values.proofs.Fitted.{loaded}
-use Rattle.values.proofs.Promises.{Typed, value-back, value-fits, read_is_typed}
+use Rattle.values.proofs.Promises.{Typed, value_back, value_fits, read_is_typed}
 use Rattle.gateway_format.specs.Messages.{read_after, write_loaded, write_from}
 
 module _ (bytes : List ℕ) (all : AllBytes bytes) (m : Message) (e : read_of bytes ≡ as_taken m) where
@@ -30,22 +30,22 @@ module _ (bytes : List ℕ) (all : AllBytes bytes) (m : Message) (e : read_of by
   typed = read_is_typed bytes all m e
 
   -- The places that reading fills say its value, and none of them is refused.
-  pub read-places-say-the-value : (before : List ℕ)
+  pub read_places_say_the_value : (before : List ℕ)
       → let fields : List ℕ = read_after (read_of bytes) (length bytes) before in (value_from fields ≡ m) × (fits fields ≡ true)
-  read-places-say-the-value before =
+  read_places_say_the_value before =
       let is : read_after (read_of bytes) (length bytes) before ≡ fields_of m (head_of m) (length bytes) 0 0 = ap (λ (r : Reading). read_after r (length bytes) before) e in
-      (ap value_from is ∙ value-back m typed (length bytes) 0 0, ap fits is ∙ value-fits m typed (length bytes) 0 0)
+      (ap value_from is ∙ value_back m typed (length bytes) 0 0, ap fits is ∙ value_fits m typed (length bytes) 0 0)
 
   -- Written with the payload and the check that were read, they give the same bytes, where there is room, and the buffer's other bytes stay.
-  pub read-places-are-written-back : (before old : List ℕ) → length bytes ≤ length old
+  pub read_places_are_written_back : (before old : List ℕ) → length bytes ≤ length old
       → let fields : List ℕ = read_after (read_of bytes) (length bytes) before in
       let payload : List ℕ = payload_of bytes (read_of bytes) in
       let check : List ℕ = check_of bytes (read_of bytes) in
       let answer : Writing = write_from fields payload check (length old) in
       (answer ≡ Written (length bytes)) × (buffer_after answer (bytes_of (value_from fields) payload check) old ≡ bytes ++ drop (length bytes) old)
   unfolding write_from
-  read-places-are-written-back before old room =
-      let said = read-places-say-the-value before in
+  read_places_are_written_back before old room =
+      let said = read_places_say_the_value before in
       let fields : List ℕ = read_after (read_of bytes) (length bytes) before in
       let payload : List ℕ = payload_of bytes (read_of bytes) in
       let check : List ℕ = check_of bytes (read_of bytes) in

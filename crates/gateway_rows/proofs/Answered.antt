@@ -20,16 +20,16 @@ module _ (words : List ℕ) (id : ℕ) (row : Row) (given : Rolled) (read : row 
   is_rolled : given ≡ rolled_of (row_of words 0) id
   is_rolled = rolled ∙ ap (λ (r : Row). rolled_of r id) (read ∙ three_words words)
 
-  pub rolled-new : (new : List ℕ) → given.verdict ≡ Verdict.New → new ≡ with_row words 0 given.row
+  pub rolled_new : (new : List ℕ) → given.verdict ≡ Verdict.New → new ≡ with_row words 0 given.row
       → (new ≡ rolled_words (rolled_of (row_of words 0) id) words) × (1 ≡ verdict_number (rolled_of (row_of words 0) id).verdict)
-  rolled-new new v e = (
+  rolled_new new v e = (
     e ∙ sym (ap (λ (x : Verdict). words_after x given.row words) v) ∙ ap (λ (x : Rolled). rolled_words x words) is_rolled,
     sym (ap verdict_number v) ∙ ap (λ (x : Rolled). verdict_number x.verdict) is_rolled,
   )
 
-  pub rolled-again : given.verdict ≡ Verdict.Duplicate
+  pub rolled_again : given.verdict ≡ Verdict.Duplicate
       → (words ≡ rolled_words (rolled_of (row_of words 0) id) words) × (2 ≡ verdict_number (rolled_of (row_of words 0) id).verdict)
-  rolled-again v = (
+  rolled_again v = (
     sym (ap (λ (x : Verdict). words_after x given.row words) v) ∙ ap (λ (x : Rolled). rolled_words x words) is_rolled,
     sym (ap verdict_number v) ∙ ap (λ (x : Rolled). verdict_number x.verdict) is_rolled,
   )

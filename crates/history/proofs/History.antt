@@ -13,7 +13,7 @@ use Rattle.history.specs.Telling.{AllOf, Stand, Told}
 use Rattle.table.proofs.Kept.{kept_none}
 use Rattle.history.proofs.Told.{named_not}
 use Rattle.history.proofs.Own.{own}
-use Rattle.history.proofs.Steps.{one-step}
+use Rattle.history.proofs.Steps.{one_step}
 
 -- ---- any number of steps
 
@@ -22,7 +22,7 @@ pub history : {t : List ℕ} {book : Book} → Told t book → (steps : List Ste
 unfolding answers_of answers_by table_of book_of
 history told [] h = (refl, told)
 history told (s ∷ steps) h =
-    let w = one-step told s h.0 in
+    let w = one_step told s h.0 in
     let on = history w.1 steps h.1 in
     (ap₂ (λ (a : Answer) (more : List Answer). a ∷ more) w.0 on.0, on.1)
 

@@ -22,7 +22,7 @@ use Rattle.window.specs.Rows.{marks_held, behind_of, list_of, opened}
 use Rattle.window.specs.declared.Row.{Row}
 use Rattle.window.specs.declared.Rolled.{Rolled}
 use Rattle.table.specs.Table.{rows, empty_table, row_of, with_row, named, is_free, first_below, find_of, free_of, kept, in_use}
-use Rattle.table.proofs.Found.{none-there-none-found}
+use Rattle.table.proofs.Found.{none_there_none_found}
 use Rattle.table.proofs.Kept.{kept_one}
 use Rattle.table.proofs.Least.{least_is}
 use Rattle.table.proofs.Words.{same_row, other_row, empty_row}
@@ -41,7 +41,7 @@ use Rattle.history.specs.History.{Step, arrives, leaves, restores, of_arrival, o
 use Rattle.history.specs.Telling.{Follows}
 use Rattle.history.proofs.History.{history, told_empty}
 use Rattle.history.proofs.Steps.{arrival}
-use Rattle.history.proofs.Promises.{history_from_the_empty_table, row-shows-its-list, no-list-no-row, restored_goes_on_as_saved}
+use Rattle.history.proofs.Promises.{history_from_the_empty_table, row_shows_its_list, no_list_no_row, restored_goes_on_as_saved}
 
 -- ---- the messages
 
@@ -145,13 +145,13 @@ pub row_after_the_example : let t : List ℕ = table_of empty_table example in
     let row : Row = row_of t (find_of rows t 0x020000000000000E 0) in
     (row.used ≡ true) × (row.highest ≡ 5) × (row.marks % 2 ^ marks_held ≡ 0)
 unfolding book_of number marks_number book_at receive_by under receiving_order reading_order outer_order body_order exchange_order tunnel_order after_reading delivery_order admission_order answer_of message_of exchanged_by address_of total acknowledgement_of acknowledging write_of writing_order stray member greatest position_of position_after is_new_position accepts behind_of
-row_after_the_example = (row-shows-its-list follows.2 0x020000000000000E 0 ((5 + 2 ^ 32) ∷ []) [] refl).1
+row_after_the_example = (row_shows_its_list follows.2 0x020000000000000E 0 ((5 + 2 ^ 32) ∷ []) [] refl).1
 
 -- The name is removed, and has no row then.
 pub removal_after_the_example : let t : List ℕ = table_of empty_table example in
     (answer_at t removal ≡ of_leaving Removed.Done) × (find_of rows (table_at t removal) 0x020000000000000E 0 < rows → ⊥)
 unfolding book_of book_at receive_by under receiving_order reading_order outer_order body_order exchange_order tunnel_order after_reading delivery_order admission_order answer_of message_of exchanged_by address_of total acknowledgement_of acknowledging write_of writing_order stray member greatest position_of position_after is_new_position accepts behind_of
-removal_after_the_example = (follows.1 ∙ refl, no-list-no-row follows.3 0x020000000000000E 0 refl)
+removal_after_the_example = (follows.1 ∙ refl, no_list_no_row follows.3 0x020000000000000E 0 refl)
 
 -- After that X is new again.
 pub x_after_its_removal : answer_at (table_of empty_table with_removal) (arrives there x) ≡ of_arrival (Received.New value_of_x (head_of value_of_x) 34)
@@ -180,7 +180,7 @@ answer_to_x = (arrival told_empty there x (are_bytes x refl)).0 ∙ refl
 table_after_x : table_of empty_table (arrives there x ∷ []) ≡ with_row empty_table 0 row_of_x
 unfolding table_of receive_table table_by message_of exchanged_by address_of free_of
 table_after_x =
-    let none = none-there-none-found empty_table 0x020000000000000E 0 (λ k l. ap (named 0x020000000000000E 0) (empty_row k)) in
+    let none = none_there_none_found empty_table 0x020000000000000E 0 (λ k l. ap (named 0x020000000000000E 0) (empty_row k)) in
     let o = opens empty_table 0x020000000000000E 0 5 (omega (arith, none)) in
     let lowest : free_of rows empty_table ≡ 0 = least_is rows (λ i. is_free (row_of empty_table i)) 0 (omega arith) (λ k l. let z : ⊥ = omega arith in absurd z) (ap is_free (empty_row 0)) in
     ap (λ (a : Received). table_after a empty_table (row_for empty_table 0x020000000000000E 0) (rolled_in empty_table 0x020000000000000E 0 5).row) answer_to_x

@@ -23,7 +23,7 @@ use Rattle.window.specs.History.{verdict_of, Shows}
 use Rattle.window.specs.declared.Verdict.TheVariants.{New}
 use Rattle.window.specs.declared.Row.{Row}
 use Rattle.window.proofs.Rows.{list_distinct, fits_gateway}
-use Rattle.window.proofs.Promises.{no-position-twice}
+use Rattle.window.proofs.Promises.{no_position_twice}
 use Rattle.table.specs.Table.{rows, empty_table, row_of, named, find_of, kept, rows_in_use}
 use Rattle.admission.specs.Admission.{rolled_in, answer_of}
 use Rattle.admission.specs.declared.answers.Received.{Received}
@@ -35,25 +35,25 @@ use Rattle.records.specs.Saving.{saved_bytes}
 use Rattle.records.specs.Sound.{Sound}
 use Rattle.records.specs.declared.answers.Restored.{Restored}
 use Rattle.records.specs.declared.answers.Restored.TheVariants as Restored
-use Rattle.records.proofs.Placed.{narrow-from, restored-length, Taken, is_taken}
+use Rattle.records.proofs.Placed.{narrow_from, restored_length, Taken, is_taken}
 use Rattle.records.proofs.SaveRestore.{restore_after_save}
 use Rattle.history.specs.History.{Step, arrives, leaves, restores, table_at, answers_of, table_of, Book, empty_book, is_new, joined, full_for, under, receive_by, book_after, book_without, restored_book, book_restored, book_at, book_of}
 use Rattle.history.specs.HandedIn.{handed_in}
 use Rattle.history.specs.Telling.{Bytes, AllOf, AllLinks, Told, Follows, AllDistinct, AtMostOne}
-use Rattle.history.proofs.Told.{is_open, is-shut}
-use Rattle.history.proofs.Steps.{agrees, one-step}
+use Rattle.history.proofs.Told.{is_open, is_shut}
+use Rattle.history.proofs.Steps.{agrees, one_step}
 use Rattle.history.proofs.History.{history, told_empty, told_handed_in}
 use Rattle.history.proofs.SameRows.{tells_the_same}
 use Rattle.history.proofs.SoundRows.{empty_sound, history_sound}
-use Rattle.history.proofs.SoundTables.{sound-table}
-use Rattle.history.proofs.Restoring.{told_restored, row_list, restored-list, no-record-no-list, one-restored}
+use Rattle.history.proofs.SoundTables.{sound_table}
+use Rattle.history.proofs.Restoring.{told_restored, row_list, restored_list, no_record_no_list, one_restored}
 
 -- ---- demand 3
 
 follows : {t : List ℕ} {book : Book} → Told t book → (steps : List Step) → AllOf steps → (next : Step) → Bytes next → Follows t book steps next
 follows told steps all next bytes =
     let h = history told steps all in
-    let n = one-step h.1 next bytes in
+    let n = one_step h.1 next bytes in
     (h.0, n.0, h.1, n.1)
 
 -- From the empty table, after any history: every answer, the refusals among them, and every row are what the rule gives on the full lists.
@@ -66,9 +66,9 @@ history_from_any_table t size = follows (told_handed_in t size)
 
 module _ {t : List ℕ} {book : Book} (told : Told t book) (node key : ℕ) where
   -- A name that has a list has a row, and the row shows it: its highest id and its fifteen marks are those of the full list.
-  pub row-shows-its-list : (ps : List ℕ) (pss : List (List ℕ)) → book.lists node key ≡ ps ∷ pss
+  pub row_shows_its_list : (ps : List ℕ) (pss : List (List ℕ)) → book.lists node key ≡ ps ∷ pss
       → (find_of rows t node key < rows) × Shows marks_held (row_of t (find_of rows t node key)) ps
-  row-shows-its-list ps pss e = go (dec_lt (find_of rows t node key) rows)
+  row_shows_its_list ps pss e = go (dec_lt (find_of rows t node key) rows)
     where
       go : Dec (find_of rows t node key < rows) → (find_of rows t node key < rows) × Shows marks_held (row_of t (find_of rows t node key)) ps
       go (yes l) =
@@ -76,14 +76,14 @@ module _ {t : List ℕ} {book : Book} (told : Told t book) (node key : ℕ) wher
           let same : o.ps ≡ ps = cc (e, o.is) in
           (l, subst (Shows marks_held (row_of t (find_of rows t node key))) same o.stands.shows)
       go (no n) =
-          let none = is-shut told node key (omega arith) in
+          let none = is_shut told node key (omega arith) in
           let z : ◌≡◌ {A = ℕ} 0 1 = cc (e, none) in
           let w : ⊥ = omega arith in
           absurd w
 
   -- A name that has none, as after its removal, has no row.
-  pub no-list-no-row : book.lists node key ≡ [] → (find_of rows t node key < rows → ⊥)
-  no-list-no-row e l =
+  pub no_list_no_row : book.lists node key ≡ [] → (find_of rows t node key < rows → ⊥)
+  no_list_no_row e l =
       let o = is_open told node key l in
       let z : ◌≡◌ {A = ℕ} 0 1 = cc (e, o.is) in
       omega arith
@@ -171,7 +171,7 @@ module _ (P : List (List ℕ) → Type 0)
 distinct_joins : (key : ℕ) (those : List (List ℕ)) (id : ℕ) → AllDistinct those → is_new key those id ≡ true → AllDistinct (joined key those id)
 unfolding member
 distinct_joins key [] id d e = ((refl, tt), tt)
-distinct_joins key (ps ∷ pss) id d e = ((no-position-twice (behind_of key) marks_held ps id e, d.0), d.1)
+distinct_joins key (ps ∷ pss) id d e = ((no_position_twice (behind_of key) marks_held ps id e, d.0), d.1)
 
 own_distinct : (rs : List Row) → AllDistinct (map (list_of marks_held) rs)
 own_distinct [] = tt
@@ -209,7 +209,7 @@ one_ends ps (qs ∷ rest) p = absurd p
 
 -- From the empty table on a name has one list or none: no two records that are taken have one name.
 pub one_list_or_none : (steps : List Step) (node key : ℕ) → AtMostOne ((book_of empty_book steps).lists node key)
-one_list_or_none steps = along AtMostOne one_joins one_ends (λ bytes count taken. one-restored taken) empty_book steps (λ n k. tt)
+one_list_or_none steps = along AtMostOne one_joins one_ends (λ bytes count taken. one_restored taken) empty_book steps (λ n k. tt)
 
 -- A name that was removed has none.
 pub removed_has_no_list : (steps : List Step) (node key : ℕ) → (book_at (book_of empty_book steps) (leaves node key)).lists node key ≡ []
@@ -238,42 +238,42 @@ module _ (bytes : List ℕ) (n : ℕ) (e : restore_of bytes ≡ Restored.Placed 
   told all t = subst⁻¹ (λ (u : List ℕ). Told u (restored_book bytes)) (table_is t) (told_restored bytes all (is_taken bytes n e).most)
 
   -- A restored name has one list, and it starts with what the record says: the highest id plus 2^32, and the positions of the marks below it.
-  pub restored-list-starts-with-its-record : (book : Book) (i : ℕ) → i < record_count bytes
+  pub restored_list_starts_with_its_record : (book : Book) (i : ℕ) → i < record_count bytes
       → let row : Row = row_from bytes i in
       ((book_at book (restores bytes)).lists row.node row.key ≡ list_of marks_held row ∷ [])
       × (list_of marks_held row ≡ (row.highest + 2 ^ 32) ∷ marked marks_held row.marks (row.highest + 2 ^ 32))
-  restored-list-starts-with-its-record book i l =
-      (ap (λ (b : Book). b.lists (row_from bytes i).node (row_from bytes i).key) (book_is book) ∙ restored-list (is_taken bytes n e) i l, row_list bytes i)
+  restored_list_starts_with_its_record book i l =
+      (ap (λ (b : Book). b.lists (row_from bytes i).node (row_from bytes i).key) (book_is book) ∙ restored_list (is_taken bytes n e) i l, row_list bytes i)
 
   -- Book and table go by the bytes alone: of all that was accepted before, after the save too, they hold what the records say and no more.
-  pub restoring-goes-by-the-bytes : (book other : Book) (t u : List ℕ)
+  pub restoring_goes_by_the_bytes : (book other : Book) (t u : List ℕ)
       → (book_at book (restores bytes) ≡ book_at other (restores bytes)) × (table_at t (restores bytes) ≡ table_at u (restores bytes))
-  restoring-goes-by-the-bytes book other t u = (book_is book ∙ sym (book_is other), table_is t ∙ sym (table_is u))
+  restoring_goes_by_the_bytes book other t u = (book_is book ∙ sym (book_is other), table_is t ∙ sym (table_is u))
 
   module _ (node key : ℕ) (absent : (i : ℕ) → i < record_count bytes → named node key (row_from bytes i) ≡ false) where
     -- The list of a name that stands in no record has ended.
-    pub list-without-a-record-ends : (book : Book) → (book_at book (restores bytes)).lists node key ≡ []
-    list-without-a-record-ends book = ap (λ (b : Book). b.lists node key) (book_is book) ∙ no-record-no-list (is_taken bytes n e) node key absent
+    pub list_without_a_record_ends : (book : Book) → (book_at book (restores bytes)).lists node key ≡ []
+    list_without_a_record_ends book = ap (λ (b : Book). b.lists node key) (book_is book) ∙ no_record_no_list (is_taken bytes n e) node key absent
 
     -- So the name has no row.
-    pub no-record-no-row : AllBytes bytes → (t : List ℕ) → (find_of rows (table_at t (restores bytes)) node key < rows → ⊥)
-    no-record-no-row all t = no-list-no-row (told all t) node key (no-record-no-list (is_taken bytes n e) node key absent)
+    pub no_record_no_row : AllBytes bytes → (t : List ℕ) → (find_of rows (table_at t (restores bytes)) node key < rows → ⊥)
+    no_record_no_row all t = no_list_no_row (told all t) node key (no_record_no_list (is_taken bytes n e) node key absent)
 
   module _ (i : ℕ) (l : i < record_count bytes) (id : ℕ) where
     -- Whether an id is new goes by the restored list alone: one that was accepted after the save can be new again.
-    pub restored-list-decides : (book : Book)
+    pub restored_list_decides : (book : Book)
         → let row : Row = row_from bytes i in
         is_new row.key ((book_at book (restores bytes)).lists row.node row.key) id ≡ accepts (behind_of row.key) marks_held (list_of marks_held row) id
-    restored-list-decides book =
-        ap (λ (those : List (List ℕ)). is_new (row_from bytes i).key those id) (restored-list-starts-with-its-record book i l).0
+    restored_list_decides book =
+        ap (λ (those : List (List ℕ)). is_new (row_from bytes i).key those id) (restored_list_starts_with_its_record book i l).0
 
     -- And that is the table's verdict.
-    pub restored-row-decides : AllBytes bytes → id < 2 ^ 32 → (t : List ℕ)
+    pub restored_row_decides : AllBytes bytes → id < 2 ^ 32 → (t : List ℕ)
         → let row : Row = row_from bytes i in
         (rolled_in (table_at t (restores bytes)) row.node row.key id).verdict ≡ verdict_of (accepts (behind_of row.key) marks_held (list_of marks_held row) id)
-    restored-row-decides all low t =
-        (agrees (told all t) (row_from bytes i).node (row_from bytes i).key id (narrow-from all i).key low).verdict
-        ∙ ap (λ (those : List (List ℕ)). verdict_of (is_new (row_from bytes i).key those id)) (restored-list (is_taken bytes n e) i l)
+    restored_row_decides all low t =
+        (agrees (told all t) (row_from bytes i).node (row_from bytes i).key id (narrow_from all i).key low).verdict
+        ∙ ap (λ (those : List (List ℕ)). verdict_of (is_new (row_from bytes i).key those id)) (restored_list (is_taken bytes n e) i l)
 
 -- A refused restore changes neither book nor table.
 pub refused_restore_keeps_book_and_table : (bytes : List ℕ) (r : Refusal) → restore_of bytes ≡ Restored.Refused r → (book : Book) (t : List ℕ)
@@ -287,7 +287,7 @@ refused_restore_keeps_book_and_table bytes r e book t =
 -- After any history from the empty table in which each link's node is a number of eight bytes, the rows in use are sound.
 pub reached_is_sound : (steps : List Step) → AllOf steps → AllLinks steps → Sound (rows_in_use (table_of empty_table steps))
 reached_is_sound steps all links =
-    sound-table (history told_empty steps all).1 (one_list_or_none steps) (history_sound told_empty empty_sound steps all links)
+    sound_table (history told_empty steps all).1 (one_list_or_none steps) (history_sound told_empty empty_sound steps all links)
 
 -- Restoring what was then saved, into whatever table, takes the bytes and gives the same rows in use, in the same order.
 pub restore_after_save_of_a_reached_table : (steps : List Step) → AllOf steps → AllLinks steps → (other : List ℕ)
@@ -305,5 +305,5 @@ restored_goes_on_as_saved steps all links other later those =
     let t : List ℕ = table_of empty_table steps in
     let back = restore_after_save_of_a_reached_table steps all links other in
     let told = (history told_empty steps all).1 in
-    let size = ap length (table_is (saved_bytes t) (length (rows_in_use t)) back.0 other) ∙ restored-length (saved_bytes t) in
+    let size = ap length (table_is (saved_bytes t) (length (rows_in_use t)) back.0 other) ∙ restored_length (saved_bytes t) in
     (history (tells_the_same told (table_at other (restores (saved_bytes t))) size back.1) later those).0 ∙ sym (history told later those).0

@@ -12,14 +12,14 @@ use Rattle.message.proofs.Logic.{clash}
 use Rattle.window.specs.Rule.{marked}
 use Rattle.window.specs.Rows.{marks_held, list_of}
 use Rattle.window.specs.declared.Row.{Row}
-use Rattle.window.proofs.Rows.{list-used}
+use Rattle.window.proofs.Rows.{list_used}
 use Rattle.table.specs.Table.{rows, named, kept, in_use}
 use Rattle.table.proofs.Kept.{kept_none, kept_one, kept_every}
 use Rattle.records.specs.Records.{row_in, same_name}
 use Rattle.records.specs.Restoring.{record_count, row_from, restore_of, restored_table, table_after, restore_table}
 use Rattle.records.specs.declared.answers.Restored.{Restored}
 use Rattle.records.specs.declared.answers.Restored.TheVariants as Restored
-use Rattle.records.proofs.Placed.{narrow-from, restored-length, restored-kept, Taken, is_taken}
+use Rattle.records.proofs.Placed.{narrow_from, restored_length, restored_kept, Taken, is_taken}
 use Rattle.history.specs.History.{Book, restores, restored_book, book_restored, book_at}
 use Rattle.history.specs.Telling.{Stand, Told, AtMostOne}
 use Rattle.history.proofs.Told.{named_node, named_is}
@@ -32,12 +32,12 @@ pub told_restored : (bytes : List ℕ) → AllBytes bytes → record_count bytes
 unfolding restored_book row_in
 told_restored bytes all most =
     record {
-      size = restored-length bytes;
+      size = restored_length bytes;
       names = λ node key.
           subst⁻¹ (λ (rs : List Row). Stand key rs (map (list_of marks_held) (kept (record_count bytes) (named node key) (row_from bytes))))
-          (restored-kept bytes all most (named node key) refl)
-          (own node key (record_count bytes) (row_from bytes) (λ k. (narrow-from all k).highest));
-      count = ap length (restored-kept bytes all most in_use refl) ∙ kept_every (record_count bytes) in_use (row_from bytes) (λ k l. refl);
+          (restored_kept bytes all most (named node key) refl)
+          (own node key (record_count bytes) (row_from bytes) (λ k. (narrow_from all k).highest));
+      count = ap length (restored_kept bytes all most in_use refl) ∙ kept_every (record_count bytes) in_use (row_from bytes) (λ k l. refl);
     }
 
 -- so it does after restoring, whether the bytes are taken or refused
@@ -73,7 +73,7 @@ one_kept (suc n) p f h = go (p (f 0)) refl (one_kept n p (λ k. f (suc k)) (λ i
 pub row_list : (bytes : List ℕ) (i : ℕ)
     → let row : Row = row_from bytes i in list_of marks_held row ≡ (row.highest + 2 ^ 32) ∷ marked marks_held row.marks (row.highest + 2 ^ 32)
 unfolding row_in
-row_list bytes i = list-used marks_held (row_from bytes i) refl
+row_list bytes i = list_used marks_held (row_from bytes i) refl
 
 module _ {bytes : List ℕ} {n : ℕ} (taken : Taken bytes n) where
   -- no two records have one name
@@ -85,9 +85,9 @@ module _ {bytes : List ℕ} {n : ℕ} (taken : Taken bytes n) where
       go false h = refl
 
   -- the name of a record has the list of its row
-  pub restored-list : (i : ℕ) → i < record_count bytes → (restored_book bytes).lists (row_from bytes i).node (row_from bytes i).key ≡ list_of marks_held (row_from bytes i) ∷ []
+  pub restored_list : (i : ℕ) → i < record_count bytes → (restored_book bytes).lists (row_from bytes i).node (row_from bytes i).key ≡ list_of marks_held (row_from bytes i) ∷ []
   unfolding restored_book row_in
-  restored-list i l = ap (map (list_of marks_held)) (kept_one (record_count bytes) here (row_from bytes) i l is others)
+  restored_list i l = ap (map (list_of marks_held)) (kept_one (record_count bytes) here (row_from bytes) i l is others)
     where
       here : Row → Bool
       here = named (row_from bytes i).node (row_from bytes i).key
@@ -104,11 +104,11 @@ module _ {bytes : List ℕ} {n : ℕ} (taken : Taken bytes n) where
           go d false e = refl
 
   -- a name that stands in no record has none
-  pub no-record-no-list : (node key : ℕ) → ((i : ℕ) → i < record_count bytes → named node key (row_from bytes i) ≡ false) → (restored_book bytes).lists node key ≡ []
+  pub no_record_no_list : (node key : ℕ) → ((i : ℕ) → i < record_count bytes → named node key (row_from bytes i) ≡ false) → (restored_book bytes).lists node key ≡ []
   unfolding restored_book
-  no-record-no-list node key h = ap (map (list_of marks_held)) (kept_none (record_count bytes) (named node key) (row_from bytes) h)
+  no_record_no_list node key h = ap (map (list_of marks_held)) (kept_none (record_count bytes) (named node key) (row_from bytes) h)
 
   -- so each name has one list or none
-  pub one-restored : (node key : ℕ) → AtMostOne ((restored_book bytes).lists node key)
+  pub one_restored : (node key : ℕ) → AtMostOne ((restored_book bytes).lists node key)
   unfolding restored_book
-  one-restored node key = one_kept (record_count bytes) (named node key) (row_from bytes) (apart node key)
+  one_restored node key = one_kept (record_count bytes) (named node key) (row_from bytes) (apart node key)

@@ -24,7 +24,7 @@ use Rattle.window.specs.declared.Row.{Row}
 use Rattle.window.specs.declared.Rolled.{Rolled}
 use Rattle.window.proofs.Bits.{number_lt}
 use Rattle.table.specs.Table.{rows, empty_table, freed, row_of, with_row, find_of}
-use Rattle.table.proofs.Found.{found-is-in-use-under-the-name}
+use Rattle.table.proofs.Found.{found_is_in_use_under_the_name}
 use Rattle.table.proofs.Words.{Narrow, other_row, same_row, empty_row}
 use Rattle.admission.specs.Admission.{row_for, no_row, rolled_in, answer_of, table_after, table_by}
 use Rattle.admission.specs.declared.answers.Received.{Received}
@@ -32,7 +32,7 @@ use Rattle.admission.specs.declared.answers.Received.TheVariants as Received
 use Rattle.admission.proofs.Places.{found, opens}
 use Rattle.reception.specs.Receiving.{Beside, sender_of, answer_to, receiving_order, receive_of, receive_table}
 use Rattle.reception.specs.Removing.{remove_table}
-use Rattle.reception.proofs.Cleared.{sender-is-somebody, key-is-good, has-row}
+use Rattle.reception.proofs.Cleared.{sender_is_somebody, key_is_good, has_row}
 use Rattle.reception.proofs.WasRead.{new_of}
 use Rattle.records.specs.Records.{row_in, bad_row}
 use Rattle.records.specs.Restoring.{record_count, row_from, restore_of, restored_table, restore_table}
@@ -40,10 +40,10 @@ use Rattle.records.specs.Restoring as rst
 use Rattle.records.specs.Sound.{SoundRow}
 use Rattle.records.specs.declared.answers.Restored.{Restored}
 use Rattle.records.specs.declared.answers.Restored.TheVariants as Restored
-use Rattle.records.proofs.Placed.{narrow-from, node-from, restored-free, restored-row, Taken, is_taken}
+use Rattle.records.proofs.Placed.{narrow_from, node_from, restored_free, restored_row, Taken, is_taken}
 use Rattle.history.specs.History.{Step, arrives, leaves, restores, table_at, Book, table_of}
 use Rattle.history.specs.Telling.{Bytes, AllOf, Links, AllLinks, Told}
-use Rattle.history.proofs.Steps.{id_low, key_low, one-step}
+use Rattle.history.proofs.Steps.{id_low, key_low, one_step}
 
 -- each row of a table that is in use is sound
 abbrev pub AllSound : List ℕ → Type 0
@@ -115,12 +115,12 @@ put_sound t i row l narrow s all k u = go (ℕ_discrete k i)
 record_sound : (bytes : List ℕ) → AllBytes bytes → (n : ℕ) → Taken bytes n → (i : ℕ) → i < record_count bytes → SoundRow (row_from bytes i)
 unfolding bit_at row_in
 record_sound bytes are n taken i l =
-    let narrow = narrow-from are i in
+    let narrow = narrow_from are i in
     let clear = eqb-false ((row_from bytes i).marks / 2 ^ marks_held % 2) 1 (good_parts (row_from bytes i) (taken.good i l)).2 in
     record {
       used = refl;
       good = taken.good i l;
-      node = node-from are i;
+      node = node_from are i;
       key = narrow.key;
       highest = narrow.highest;
       marks = below (row_from bytes i).marks narrow.marks clear;
@@ -137,8 +137,8 @@ restored_sound : (bytes : List ℕ) (n : ℕ) → AllBytes bytes → Taken bytes
 restored_sound bytes n are taken k u = go (dec_lt k (record_count bytes))
   where
     go : Dec (k < record_count bytes) → SoundRow (row_of (restored_table bytes) k)
-    go (yes l) = subst⁻¹ SoundRow (restored-row bytes are taken.most k l) (record_sound bytes are n taken k l)
-    go (no l) = clash false (sym (ap (λ (r : Row). r.used) (restored-free bytes k (omega arith))) ∙ u) refl
+    go (yes l) = subst⁻¹ SoundRow (restored_row bytes are taken.most k l) (record_sound bytes are n taken k l)
+    go (no l) = clash false (sym (ap (λ (r : Row). r.used) (restored_free bytes k (omega arith))) ∙ u) refl
 
 -- ---- the name of a message
 
@@ -154,7 +154,7 @@ sender_low b bytes all l = go (bit (header bytes) 9)
 -- the key id is 0 or of type 1 or 2
 key_kind : (b : Beside) (bytes : List ℕ) (full : Bool) → first (receiving_order b bytes full) ≡ 0 → (not (eqb (message_of bytes).key 0) && bad_key_type (message_of bytes).key) ≡ false
 unfolding message_of exchanged_by address_of
-key_kind b bytes full clear = go (eqb (bits (header bytes) 4 4) 1) _ (key-is-good b bytes full clear)
+key_kind b bytes full clear = go (eqb (bits (header bytes) 4 4) 1) _ (key_is_good b bytes full clear)
   where
     go : (e : Bool) (at : ℕ) → (e && bad_key_type (little (part bytes at (only e 2)))) ≡ false
         → (not (eqb (little (part bytes at (only e 2))) 0) && bad_key_type (little (part bytes at (only e 2)))) ≡ false
@@ -185,7 +185,7 @@ module _ (t : List ℕ) (size : length t ≡ 96) (all : AllSound t) where
           let f = found t node key id h in
           subst⁻¹ (λ (x : Rolled). AllSound (with_row t (row_for t node key) x.row)) f.1
           (at (row_for t node key) (rolled_of (row_of t (find_of rows t node key)) id).row (leb-false rows (row_for t node key) room)
-          (rolled_sound (row_of t (find_of rows t node key)) id (all (find_of rows t node key) (found-is-in-use-under-the-name t node key h).0)))
+          (rolled_sound (row_of t (find_of rows t node key)) id (all (find_of rows t node key) (found_is_in_use_under_the_name t node key h).0)))
       put name room (no n) =
           let f = opens t node key id (omega arith) in
           subst⁻¹ (λ (x : Rolled). AllSound (with_row t (row_for t node key) x.row)) f.1
@@ -196,12 +196,12 @@ module _ (t : List ℕ) (size : length t ≡ 96) (all : AllSound t) where
           let w = new_of (first_refusal (receiving_order b bytes (no_row t node key))) (rolled_in t node key id).verdict (message_of bytes) v (head_of (message_of bytes)) h (only (message_of bytes).wants (total (answer_to b (message_of bytes)) [])) n e in
           let name : GoodName node key =
           record {
-            somebody = sender-is-somebody b bytes (no_row t node key) w.0;
+            somebody = sender_is_somebody b bytes (no_row t node key) w.0;
             kind = key_kind b bytes (no_row t node key) w.0;
             node_fits = sender_low b bytes are l;
             key_fits = key_low bytes are;
           } in
-          put name (has-row b bytes (no_row t node key) w.0) (dec_lt (find_of rows t node key) rows)
+          put name (has_row b bytes (no_row t node key) w.0) (dec_lt (find_of rows t node key) rows)
       go (Received.Duplicate v h n) e = all
       go (Received.Refused r) e = all
 
@@ -234,4 +234,4 @@ empty_sound k u = clash false (sym (ap (λ (r : Row). r.used) (empty_row k)) ∙
 pub history_sound : {t : List ℕ} {book : Book} → Told t book → AllSound t → (steps : List Step) → AllOf steps → AllLinks steps → AllSound (table_of t steps)
 unfolding table_of
 history_sound told all [] h l = all
-history_sound {t} told all (s ∷ steps) h l = history_sound (one-step told s h.0).1 (step_sound t told.size all s h.0 l.0) steps h.1 l.1
+history_sound {t} told all (s ∷ steps) h l = history_sound (one_step told s h.0).1 (step_sound t told.size all s h.0 l.0) steps h.1 l.1

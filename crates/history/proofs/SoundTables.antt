@@ -67,5 +67,5 @@ module _ {t : List ℕ} {book : Book} (told : Told t book) (one : (node key : �
           absurd z
       go false e = refl
 
-  pub sound-table : AllSound t → Sound (rows_in_use t)
-  sound-table all = sound_kept rows (row_of t) all apart
+  pub sound_table : AllSound t → Sound (rows_in_use t)
+  sound_table all = sound_kept rows (row_of t) all apart

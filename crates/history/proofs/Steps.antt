@@ -23,9 +23,9 @@ use Rattle.window.specs.declared.Row.{Row}
 use Rattle.window.specs.declared.Rolled.{Rolled}
 use Rattle.window.specs.declared.Verdict.{Verdict}
 use Rattle.window.specs.declared.Verdict.TheVariants.{New, Duplicate}
-use Rattle.window.proofs.Accepting.{step-new}
-use Rattle.window.proofs.History.{Stands, stands_opened, stands_on, verdict-on, was-accepted}
-use Rattle.window.proofs.Promises.{gateway, name-stays, gateway-stray-bit}
+use Rattle.window.proofs.Accepting.{step_new}
+use Rattle.window.proofs.History.{Stands, stands_opened, stands_on, verdict_on, was_accepted}
+use Rattle.window.proofs.Promises.{gateway, name_stays, gateway_stray_bit}
 use Rattle.window.proofs.Rows.{fits_gateway}
 use Rattle.table.specs.Table.{rows, one_if, freed, row_of, with_row, is_free, find_of, free_of, in_use}
 use Rattle.admission.specs.Admission.{no_row, rolled_in, answer_of, table_after, table_by}
@@ -37,13 +37,13 @@ use Rattle.admission.specs.Admission as rcv
 use Rattle.reception.specs.Removing.{remove_of, remove_table}
 use Rattle.history.specs.History.{Book, Step, arrives, leaves, restores, of_arrival, of_leaving, answer_at, table_at, is_new, joined, one_more, full_for, removed_by, under, receive_by, answer_by, book_after, book_without, book_at}
 use Rattle.history.specs.Telling.{Bytes, Told}
-use Rattle.reception.proofs.Cleared.{has-row}
+use Rattle.reception.proofs.Cleared.{has_row}
 use Rattle.reception.proofs.WasRead.{new_of}
 use Rattle.table.proofs.Least.{least_holds}
 use Rattle.table.proofs.Words.{Narrow, other_row}
 use Rattle.admission.proofs.Places.{found, opens}
 use Rattle.table.proofs.Kept.{counts, all_kept}
-use Rattle.history.proofs.Told.{named_node, named_is, named_not, named_other, g-same, changed, hits, is_open, is-shut, alone}
+use Rattle.history.proofs.Told.{named_node, named_is, named_not, named_other, g_same, changed, hits, is_open, is_shut, alone}
 use Rattle.history.proofs.Restoring.{restoring}
 
 -- ---- what a message comes to
@@ -75,14 +75,14 @@ module _ {t : List ℕ} {book : Book} (told : Told t book) (node key id : ℕ) (
         let o = is_open told node key l in
         let B : ℕ = behind_of key in
         let next : Row = (rolled_of row id).row in
-        let joins = step-new B marks_held o.ps id (was-accepted (gateway key) o.stands id ld new) in
+        let joins = step_new B marks_held o.ps id (was_accepted (gateway key) o.stands id ld new) in
         let s : Stands marks_held key next (position_after B o.ps id ∷ o.ps) = subst (Stands marks_held key next) joins (stands_on (gateway key) o.stands id ld) in
-        let node_stays : next.node ≡ node = (name-stays (behind_of row.key) marks_held row id).0 ∙ name.1 in
+        let node_stays : next.node ≡ node = (name_stays (behind_of row.key) marks_held row id).0 ∙ name.1 in
         let narrow : Narrow next =
         record {
           key = subst⁻¹ (λ (k : ℕ). k < 2 ^ 16) s.name lk;
           highest = omega (arith, s.shows.1);
-          marks = omega (arith, (gateway-stray-bit row id).1 new);
+          marks = omega (arith, (gateway_stray_bit row id).1 new);
         } in
         subst⁻¹ (λ (those : List (List ℕ)). Told (with_row t (find_of rows t node key) next) (After those)) o.is
         (changed told node key (find_of rows t node key) l next narrow ((position_after B o.ps id ∷ o.ps) ∷ o.pss) book.count
@@ -97,7 +97,7 @@ module _ {t : List ℕ} {book : Book} (told : Told t book) (node key id : ℕ) (
         let o = is_open told node key l in
         record {
           full = ap (leb rows) f.0 ∙ lt-leb rows (find_of rows t node key) l ∙ sym (ap (λ (those : List (List ℕ)). full_for those book.count) o.is);
-          verdict = ap (λ (x : Rolled). x.verdict) f.1 ∙ verdict-on (gateway key) o.stands id ld ∙ sym (ap (λ (those : List (List ℕ)). verdict_of (is_new key those id)) o.is);
+          verdict = ap (λ (x : Rolled). x.verdict) f.1 ∙ verdict_on (gateway key) o.stands id ld ∙ sym (ap (λ (those : List (List ℕ)). verdict_of (is_new key those id)) o.is);
           moves = λ z new.
               subst⁻¹ (λ (x : Rolled). Told (with_row t (rcv.row_for t node key) x.row) (After (book.lists node key))) f.1
               (subst⁻¹ (λ (i : ℕ). Told (with_row t i (rolled_of row id).row) (After (book.lists node key))) f.0
@@ -111,7 +111,7 @@ module _ {t : List ℕ} {book : Book} (told : Told t book) (node key id : ℕ) (
     opened_at li =
         let free : (row_of t (free_of rows t)).used ≡ false = not-true _ (least_holds rows (λ i. is_free (row_of t i)) li) in
         let narrow : Narrow (opened node key id) = record { key = lk; highest = ld; marks = omega arith } in
-        subst⁻¹ (λ (those : List (List ℕ)). Told (with_row t (free_of rows t) (opened node key id)) (After those)) (is-shut told node key l)
+        subst⁻¹ (λ (those : List (List ℕ)). Told (with_row t (free_of rows t) (opened node key id)) (After those)) (is_shut told node key l)
         (changed told node key (free_of rows t) li (opened node key id) narrow (((id + 2 ^ 32) ∷ []) ∷ []) (book.count + 1)
         (λ n k e. named_not n k (row_of t (free_of rows t)) free)
         (λ n k e. named_other n k node key (opened node key id) e refl refl)
@@ -122,7 +122,7 @@ module _ {t : List ℕ} {book : Book} (told : Told t book) (node key id : ℕ) (
     unfolding free_of
     agrees_opens =
         let f = opens t node key id l in
-        let none = is-shut told node key l in
+        let none = is_shut told node key l in
         record {
           full = ap (leb rows) f.0 ∙ all_kept rows in_use (row_of t) ∙ ap (leb rows) told.count ∙ sym (ap (λ (those : List (List ℕ)). full_for those book.count) none);
           verdict = ap (λ (x : Rolled). x.verdict) f.1 ∙ sym (ap (λ (those : List (List ℕ)). verdict_of (is_new key those id)) none);
@@ -181,7 +181,7 @@ module _ {t : List ℕ} {book : Book} (told : Told t book) where
       go : (a : Received) → receive_of b bytes t ≡ a → Told (table_after a t (rcv.row_for t node key) (rolled_in t node key id).row) (book_after a node key id book)
       go (Received.New v h n) e =
           let w = new_of (first_refusal (receiving_order b bytes (no_row t node key))) (rolled_in t node key id).verdict (message_of bytes) v (head_of (message_of bytes)) h (only (message_of bytes).wants (total (answer_to b (message_of bytes)) [])) n e in
-          both.moves (has-row b bytes (no_row t node key) w.0) w.3
+          both.moves (has_row b bytes (no_row t node key) w.0) w.3
       go (Received.Duplicate v h n) e = told
       go (Received.Refused r) e = told
 
@@ -208,7 +208,7 @@ module _ {t : List ℕ} {book : Book} (told : Told t book) where
           (λ n k e. named_other n k node key (row_of t (find_of rows t node key)) e w.1 w.2)
           (λ n k e. named_not n k freed refl)
           (o.goes freed narrow refl)
-          (omega (arith, c, told.count, ap one_if w.0, ap (λ (r : Row). one_if r.used) (g-same told node key (find_of rows t node key) l freed narrow))))
+          (omega (arith, c, told.count, ap one_if w.0, ap (λ (r : Row). one_if r.used) (g_same told node key (find_of rows t node key) l freed narrow))))
 
       go : Dec (find_of rows t node key < rows) → Left (book.lists node key) (ltb (find_of rows t node key) rows)
       go (yes l) =
@@ -217,10 +217,10 @@ module _ {t : List ℕ} {book : Book} (told : Told t book) where
       go (no n) =
           let l : rows ≤ find_of rows t node key = omega arith in
           subst⁻¹ (Left (book.lists node key)) (le-ltb (find_of rows t node key) rows l)
-          (subst⁻¹ (λ (those : List (List ℕ)). Left those false) (is-shut told node key l) (refl, told))
+          (subst⁻¹ (λ (those : List (List ℕ)). Left those false) (is_shut told node key l) (refl, told))
 
   -- the answer is the rule's on the full lists, and the table goes on telling the book
-  pub one-step : (s : Step) → Bytes s → (answer_at t s ≡ answer_by book s) × Told (table_at t s) (book_at book s)
-  one-step (arrives b bytes) all = let w = arrival b bytes all in (ap of_arrival w.0, w.1)
-  one-step (leaves node key) u = let w = leaving node key in (ap of_leaving w.0, w.1)
-  one-step (restores bytes) all = (refl, restoring told bytes all)
+  pub one_step : (s : Step) → Bytes s → (answer_at t s ≡ answer_by book s) × Told (table_at t s) (book_at book s)
+  one_step (arrives b bytes) all = let w = arrival b bytes all in (ap of_arrival w.0, w.1)
+  one_step (leaves node key) u = let w = leaving node key in (ap of_leaving w.0, w.1)
+  one_step (restores bytes) all = (refl, restoring told bytes all)

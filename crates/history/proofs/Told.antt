@@ -69,8 +69,8 @@ under_other lists node key those n k e = ap (λ (b : Bool). cond b those (lists 
 -- ---- one row changes
 
 module _ {t : List ℕ} {book : Book} (told : Told t book) (node key i : ℕ) (li : i < rows) (row : Row) (narrow : Narrow row) where
-  pub g-same : row_of (with_row t i row) i ≡ row
-  g-same = same_row t i row (omega (arith, told.size)) narrow
+  pub g_same : row_of (with_row t i row) i ≡ row
+  g_same = same_row t i row (omega (arith, told.size)) narrow
 
   apart : Apart i (row_of t) (row_of (with_row t i row))
   apart k n = other_row t i k row n
@@ -86,7 +86,7 @@ module _ {t : List ℕ} {book : Book} (told : Told t book) (node key i : ℕ) (l
       record {
         size = length_put t i row ∙ told.size;
         names = λ n k. go n k (eqb n node && eqb k key) refl;
-        count = omega (arith, counted, counts rows in_use (row_of t) (row_of (with_row t i row)) i li apart, ap (λ (r : Row). one_if r.used) g-same);
+        count = omega (arith, counted, counts rows in_use (row_of t) (row_of (with_row t i row)) i li apart, ap (λ (r : Row). one_if r.used) g_same);
       }
     where
       go : (n k : ℕ) (b : Bool) → (eqb n node && eqb k key) ≡ b → Stand k (kept rows (named n k) (row_of (with_row t i row))) (under book.lists node key those n k)
@@ -98,7 +98,7 @@ module _ {t : List ℕ} {book : Book} (told : Told t book) (node key i : ℕ) (l
       go n k false e =
           subst⁻¹ (Stand k (kept rows (named n k) (row_of (with_row t i row)))) (under_other book.lists node key those n k e)
           (subst⁻¹ (λ (rs : List Row). Stand k rs (book.lists n k))
-          (kept_same rows (named n k) (row_of t) (row_of (with_row t i row)) i apart (before n k e) (ap (named n k) g-same ∙ after n k e))
+          (kept_same rows (named n k) (row_of t) (row_of (with_row t i row)) i apart (before n k e) (ap (named n k) g_same ∙ after n k e))
           (told.names n k))
 
 -- ---- a name that has a row
@@ -133,7 +133,7 @@ module _ {t : List ℕ} {book : Book} (told : Told t book) (node key : ℕ) (l :
   is_open = go (book.lists node key) refl
     where
       put : (row : Row) → Narrow row → row_of (with_row t (find_of rows t node key) row) (find_of rows t node key) ≡ row
-      put row n = g-same told node key (find_of rows t node key) l row n
+      put row n = g_same told node key (find_of rows t node key) l row n
 
       go : (those : List (List ℕ)) → book.lists node key ≡ those → Open
       go [] e = absurd (subst (Stand key (row_of t (find_of rows t node key) ∷ (parts freed).rest)) e (at freed))
@@ -159,8 +159,8 @@ module _ {t : List ℕ} {book : Book} (told : Told t book) (node key : ℕ) (l :
   unfolding find_of
   nowhere k m = least_misses rows (λ i. named node key (row_of t i)) k (omega (arith, l))
 
-  pub is-shut : book.lists node key ≡ []
-  is-shut = go (book.lists node key) (subst (λ (rs : List Row). Stand key rs (book.lists node key)) (kept_none rows (named node key) (row_of t) nowhere) (told.names node key))
+  pub is_shut : book.lists node key ≡ []
+  is_shut = go (book.lists node key) (subst (λ (rs : List Row). Stand key rs (book.lists node key)) (kept_none rows (named node key) (row_of t) nowhere) (told.names node key))
     where
       go : (those : List (List ℕ)) → Stand key [] those → those ≡ []
       go [] s = refl
@@ -170,7 +170,7 @@ module _ {t : List ℕ} {book : Book} (told : Told t book) (node key : ℕ) (l :
   pub alone : (i : ℕ) → i < rows → (row : Row) (qs : List ℕ) → Narrow row → named node key row ≡ true → Stands marks_held key row qs
       → Stand key (kept rows (named node key) (row_of (with_row t i row))) (qs ∷ [])
   alone i li row qs n h s =
-      let put = g-same told node key i li row n in
+      let put = g_same told node key i li row n in
       let g : ℕ → Row = row_of (with_row t i row) in
       let sp = split rows (named node key) g (row_of t) i li (λ k m. ap (named node key) (other_row t i k row (λ e. omega arith)) ∙ nowhere k (omega arith)) (ap (named node key) put ∙ h) (λ k m. sym (other_row t i k row m)) in
       let none : sp.rest ≡ [] = sym (sp.goes (nowhere i li)) ∙ kept_none rows (named node key) (row_of t) nowhere in

@@ -42,8 +42,8 @@ module _ {M : Type 1} {𝓤 : Ura M} (𝓛 : Logic 𝓤) (at_mem : Memory → SP
       via 𝓤 _ (conj_mono 𝓤 (two 𝓤 _ _) (two 𝓤 _ _)) (both 𝓤 _ _ _ (λ e f. same out.now (last_text left) e.0 f.0))
 
   -- `figures` makes one text, and leaves one buffer
-  pub one-figures : (κs : Lfts 1) (figure : Figure) (out : Bor (List ℕ)) (r s : ℕ) (x y : AtExit figures.ended κs)
+  pub one_figures : (κs : Lfts 1) (figure : Figure) (out : Bor (List ℕ)) (r s : ℕ) (x y : AtExit figures.ended κs)
       → let allows : ℕ → AtExit figures.ended κs → SProp 𝓤 = λ v e. (figures.clauses 𝓛 at_mem run κs (figure, (out, tt))).ensures tt v e in
       ent 𝓤 (conj 𝓤 (allows r x) (allows s y)) (fact 𝓤 ((r ≡ s) × (x.1.0.now ≡ y.1.0.now)))
-  one-figures κs figure out r s x y =
+  one_figures κs figure out r s x y =
       via 𝓤 _ (conj_mono 𝓤 (two 𝓤 _ _) (two 𝓤 _ _)) (both 𝓤 _ _ _ (λ e f. same out.now (figures_text figure) e.0 f.0))

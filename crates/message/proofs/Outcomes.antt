@@ -18,27 +18,27 @@ use Rattle.message.specs.contracts.value.check_length as check_length
 use Rattle.message.specs.contracts.value.head_length as head_length
 
 module _ {M : Type 1} {𝓤 : Ura M} (𝓛 : Logic 𝓤) (at_mem : Memory → SProp 𝓤) (run : Routine → Fun 𝓤) where
-  pub one-only-of : (present : Bool) (n : ℕ) (r s : ℕ)
+  pub one_only_of : (present : Bool) (n : ℕ) (r s : ℕ)
       → let allows : ℕ → SProp 𝓤 = λ v. (only.clauses 𝓛 at_mem run tt (present, (n, tt))).ensures tt v (present, (n, tt)) in
       ent 𝓤 (conj 𝓤 (allows r) (allows s)) (fact 𝓤 (r ≡ s))
-  one-only-of present n r s = both 𝓤 _ _ _ (λ e f. e.0 ∙ sym f.0)
+  one_only_of present n r s = both 𝓤 _ _ _ (λ e f. e.0 ∙ sym f.0)
 
-  pub one-body-at : (sourced : Bool) (destined : Bool) (sealed : Bool) (r s : ℕ)
+  pub one_body_at : (sourced : Bool) (destined : Bool) (sealed : Bool) (r s : ℕ)
       → let allows : ℕ → SProp 𝓤 = λ v. (body_at.clauses 𝓛 at_mem run tt (sourced, (destined, (sealed, tt)))).ensures tt v (sourced, (destined, (sealed, tt))) in
       ent 𝓤 (conj 𝓤 (allows r) (allows s)) (fact 𝓤 (r ≡ s))
-  one-body-at sourced destined sealed r s = both 𝓤 _ _ _ (λ e f. e.0 ∙ sym f.0)
+  one_body_at sourced destined sealed r s = both 𝓤 _ _ _ (λ e f. e.0 ∙ sym f.0)
 
-  pub one-body-of : (m : Message) (r s : ℕ)
+  pub one_body_of : (m : Message) (r s : ℕ)
       → let allows : ℕ → SProp 𝓤 = λ v. (body_of.clauses 𝓛 at_mem run tt (m, tt)).ensures tt v (m, tt) in
       ent 𝓤 (conj 𝓤 (allows r) (allows s)) (fact 𝓤 (r ≡ s))
-  one-body-of m r s = both 𝓤 _ _ _ (λ e f. e.0 ∙ sym f.0)
+  one_body_of m r s = both 𝓤 _ _ _ (λ e f. e.0 ∙ sym f.0)
 
-  pub one-check-length : (m : Message) (r s : ℕ)
+  pub one_check_length : (m : Message) (r s : ℕ)
       → let allows : ℕ → SProp 𝓤 = λ v. (check_length.clauses 𝓛 at_mem run tt (m, tt)).ensures tt v (m, tt) in
       ent 𝓤 (conj 𝓤 (allows r) (allows s)) (fact 𝓤 (r ≡ s))
-  one-check-length m r s = both 𝓤 _ _ _ (λ e f. e.0 ∙ sym f.0)
+  one_check_length m r s = both 𝓤 _ _ _ (λ e f. e.0 ∙ sym f.0)
 
-  pub one-head-length : (m : Message) (r s : ℕ)
+  pub one_head_length : (m : Message) (r s : ℕ)
       → let allows : ℕ → SProp 𝓤 = λ v. (head_length.clauses 𝓛 at_mem run tt (m, tt)).ensures tt v (m, tt) in
       ent 𝓤 (conj 𝓤 (allows r) (allows s)) (fact 𝓤 (r ≡ s))
-  one-head-length m r s = both 𝓤 _ _ _ (λ e f. e.0 ∙ sym f.0)
+  one_head_length m r s = both 𝓤 _ _ _ (λ e f. e.0 ∙ sym f.0)

@@ -31,36 +31,36 @@ outer_refused bytes r e =
 
 -- the value up to the key id was given: it agrees with the whole value on what the length and the start go by
 module _ (bytes : List ℕ) (m : Message) (e : begun_of bytes ≡ Address m) where
-  pub outer-none : first (outer_order bytes (message_of bytes)) ≡ 0
-  outer-none = (address_clear bytes m e).0
+  pub outer_none : first (outer_order bytes (message_of bytes)) ≡ 0
+  outer_none = (address_clear bytes m e).0
 
-  pub outer-given : address_of bytes (header bytes) ≡ m
-  outer-given = (address_clear bytes m e).1
+  pub outer_given : address_of bytes (header bytes) ≡ m
+  outer_given = (address_clear bytes m e).1
 
   start_is : start_of bytes (message_of bytes) ≡ start_of bytes m
   unfolding message_of exchanged_by address_of
-  start_is = ap (λ (v : Message). start_of bytes v) outer-given
+  start_is = ap (λ (v : Message). start_of bytes v) outer_given
 
   outer_taken : outer_of bytes ≡ OuterReading.Protected (start_of bytes m) (length bytes - start_of bytes m)
   unfolding outer_of
   outer_taken =
-      there_is_none (first_refusal (outer_order bytes (message_of bytes))) (OuterReading.Protected (start_of bytes (message_of bytes)) (length bytes - start_of bytes (message_of bytes))) _ outer-none
+      there_is_none (first_refusal (outer_order bytes (message_of bytes))) (OuterReading.Protected (start_of bytes (message_of bytes)) (length bytes - start_of bytes (message_of bytes))) _ outer_none
       ∙ ap (λ (s : ℕ). OuterReading.Protected s (length bytes - s)) start_is
 
-  pub outer-encrypted : encrypted m ≡ true → outer_of bytes ≡ OuterReading.Protected (body_of m) (length bytes - body_of m)
-  outer-encrypted t =
+  pub outer_encrypted : encrypted m ≡ true → outer_of bytes ≡ OuterReading.Protected (body_of m) (length bytes - body_of m)
+  outer_encrypted t =
       outer_taken
       ∙ ap (λ (b : Bool). OuterReading.Protected (cond b (body_of m) (length bytes)) (length bytes - cond b (body_of m) (length bytes))) t
 
-  pub outer-plain : encrypted m ≡ false → outer_of bytes ≡ OuterReading.Protected (length bytes) 0
-  outer-plain t =
+  pub outer_plain : encrypted m ≡ false → outer_of bytes ≡ OuterReading.Protected (length bytes) 0
+  outer_plain t =
       outer_taken
       ∙ ap (λ (b : Bool). OuterReading.Protected (cond b (body_of m) (length bytes)) (length bytes - cond b (body_of m) (length bytes))) t
       ∙ ap (λ (n : ℕ). OuterReading.Protected (length bytes) n) (sub_self (length bytes))
 
-  pub outer-body : body_of m ≡ body_by (header bytes)
+  pub outer_body : body_of m ≡ body_by (header bytes)
   unfolding address_of
-  outer-body = ap body_of (sym outer-given)
+  outer_body = ap body_of (sym outer_given)
 
-  pub outer-room : body_of m ≤ length bytes
-  outer-room = let f = outer_fixed bytes outer-none in let b = outer-body in omega arith
+  pub outer_room : body_of m ≤ length bytes
+  outer_room = let f = outer_fixed bytes outer_none in let b = outer_body in omega arith

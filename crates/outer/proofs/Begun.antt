@@ -41,8 +41,8 @@ module _ (bytes : List ℕ) (l : too_long (length bytes) ≡ false) (s : ltb (le
   unfolding rest
   to_header = simp (outer_steps, l, s)
 
-  pub begun-header : (first (header_order (header bytes)) ≡ 0 → ⊥) → begun_of bytes ≡ Refused (refusal (first (header_order (header bytes))))
-  begun-header h =
+  pub begun_header : (first (header_order (header bytes)) ≡ 0 → ⊥) → begun_of bytes ≡ Refused (refusal (first (header_order (header bytes))))
+  begun_header h =
       answered bytes (refusal (first (header_order (header bytes))))
       (to_header ∙ first_hit (header_order (header bytes)) rest h ∙ first_at_zero (header_order (header bytes)) (header_at_zero (header bytes)))
       ∙ begun_hit _ _ h
@@ -51,22 +51,22 @@ module _ (bytes : List ℕ) (l : too_long (length bytes) ≡ false) (s : ltb (le
     to_rest : first_refusal (outer_order bytes (message_of bytes)) ≡ first_refusal rest
     to_rest = to_header ∙ first_pass (header_order (header bytes)) rest (header_numbered (header bytes)) h
 
-    pub begun-fixed : ltb (length bytes) (fixed_at (header bytes)) ≡ true → begun_of bytes ≡ Refused (record { number = 2; offset = length bytes })
+    pub begun_fixed : ltb (length bytes) (fixed_at (header bytes)) ≡ true → begun_of bytes ≡ Refused (record { number = 2; offset = length bytes })
     unfolding rest
-    begun-fixed f = answered bytes (record { number = 2; offset = length bytes }) (to_rest ∙ simp f)
+    begun_fixed f = answered bytes (record { number = 2; offset = length bytes }) (to_rest ∙ simp f)
 
     module _ (f : ltb (length bytes) (fixed_at (header bytes)) ≡ false) where
       to_fields : first_refusal (outer_order bytes (message_of bytes)) ≡ first_refusal (field_order (address_of bytes (header bytes)))
       unfolding rest
       to_fields = to_rest ∙ simp f
 
-      pub begun-address : (first (address_order (address_of bytes (header bytes))) ≡ 0 → ⊥)
+      pub begun_address : (first (address_order (address_of bytes (header bytes))) ≡ 0 → ⊥)
           → begun_of bytes ≡ Refused (record { number = first (address_order (address_of bytes (header bytes))); offset = field_at (first (address_order (address_of bytes (header bytes)))) (bit (header bytes) 9) (bit (header bytes) 8) })
       unfolding address_of
-      begun-address a = answered bytes _ (to_fields ∙ fields_place (address_of bytes (header bytes)) a) ∙ begun_hit _ _ a
+      begun_address a = answered bytes _ (to_fields ∙ fields_place (address_of bytes (header bytes)) a) ∙ begun_hit _ _ a
 
-      pub begun-whole : first (address_order (address_of bytes (header bytes))) ≡ 0 → begun_of bytes ≡ Address (address_of bytes (header bytes))
-      begun-whole a =
+      pub begun_whole : first (address_order (address_of bytes (header bytes))) ≡ 0 → begun_of bytes ≡ Address (address_of bytes (header bytes))
+      begun_whole a =
           answered bytes _ to_fields
           ∙ there_is_none (first_refusal (field_order (address_of bytes (header bytes)))) (Address (address_of bytes (header bytes))) _ (fields_number (address_of bytes (header bytes)) ∙ a)
 

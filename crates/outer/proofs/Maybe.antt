@@ -10,9 +10,9 @@ use Rattle.message.specs.Layout.{only}
 
 module _ (bytes : List ℕ) (present : Bool) (at w : ℕ) (p : present ≡ true) (h : at + only present w ≤ length bytes) where
   -- the bytes of one that is present are there
-  pub maybe-room : at + w ≤ length bytes
-  maybe-room = subst (λ (b : Bool). at + only b w ≤ length bytes) p h
+  pub maybe_room : at + w ≤ length bytes
+  maybe_room = subst (λ (b : Bool). at + only b w ≤ length bytes) p h
 
   -- and what a get reads is the field
-  pub maybe-get : front w (take (at + w - at) (drop at bytes)) ≡ part bytes at (only present w)
-  maybe-get = place_get bytes at w maybe-room ∙ ap (λ (b : Bool). part bytes at (only b w)) (sym p)
+  pub maybe_get : front w (take (at + w - at) (drop at bytes)) ≡ part bytes at (only present w)
+  maybe_get = place_get bytes at w maybe_room ∙ ap (λ (b : Bool). part bytes at (only b w)) (sym p)

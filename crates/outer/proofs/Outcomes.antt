@@ -17,7 +17,7 @@ use Rattle.outer.specs.declared.outer.Begun.{Begun}
 use Rattle.outer.specs.contracts.outer.begin as begin
 
 module _ {M : Type 1} {𝓤 : Ura M} (𝓛 : Logic 𝓤) (at_mem : Memory → SProp 𝓤) (run : Routine → Fun 𝓤) where
-  pub one-begin : (κs : Lfts 1) (bytes : Bor (List ℕ)) (r s : Begun) (x y : AtExit begin.ended κs)
+  pub one_begin : (κs : Lfts 1) (bytes : Bor (List ℕ)) (r s : Begun) (x y : AtExit begin.ended κs)
       → let allows : Begun → AtExit begin.ended κs → SProp 𝓤 = λ v e. (begin.clauses 𝓛 at_mem run κs (bytes, tt)).ensures tt v e in
       ent 𝓤 (conj 𝓤 (allows r x) (allows s y)) (fact 𝓤 (r ≡ s))
-  one-begin κs bytes r s x y = both 𝓤 _ _ _ (λ e f. e ∙ sym f)
+  one_begin κs bytes r s x y = both 𝓤 _ _ _ (λ e f. e ∙ sym f)

@@ -32,16 +32,16 @@ module _ (bytes : List ℕ) (m : Message) (h : Head) (taken : read_of bytes ≡ 
   within = subst⁻¹ (λ (g : Head). g.length + check_length m ≤ length bytes) (head_taken bytes m h taken) (fits bytes m taken)
 
   -- the payload or the packet is where places 10 and 11 say
-  pub payload-there : take (get_or fields 11 0) (drop (get_or fields 10 0) bytes) ≡ payload_of bytes (read_of bytes)
+  pub payload_there : take (get_or fields 11 0) (drop (get_or fields 10 0) bytes) ≡ payload_of bytes (read_of bytes)
   unfolding fields_with payload_of
-  payload-there =
+  payload_there =
       sym (ap (payload_of bytes) taken
       ∙ ap (λ (b : Bool). part_of b (take (length bytes - check_length m - h.length) (drop h.length bytes))) (le-leb (h.length + check_length m) (length bytes) within))
 
   -- the check is where places 12 and 13 say
-  pub check-there : take (get_or fields 13 0) (drop (get_or fields 12 0) bytes) ≡ check_of bytes (read_of bytes)
+  pub check_there : take (get_or fields 13 0) (drop (get_or fields 12 0) bytes) ≡ check_of bytes (read_of bytes)
   unfolding fields_with check_of
-  check-there =
+  check_there =
       let w = within in
       let n : h.length + (length bytes - check_length m - h.length) ≡ length bytes - check_length m = omega arith in
       ap (λ (k : ℕ). take (check_length m) (drop k bytes)) n

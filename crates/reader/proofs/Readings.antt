@@ -22,7 +22,7 @@ use Rattle.outer.specs.Steps.{fixed_at, begun_of}
 use Rattle.outer.specs.declared.outer.Begun.TheVariants.{Address, Refused}
 use Rattle.outer.proofs.Begun.{refused_first, outer_numbered, outer_fixed}
 use Rattle.outer.proofs.Clear.{outer_clear}
-use Rattle.outer.proofs.Answers.{outer-none, outer-given, outer-body}
+use Rattle.outer.proofs.Answers.{outer_none, outer_given, outer_body}
 use Rattle.reader.specs.Reading.{exchange_order, tunnel_order, body_order, reading_order, read_of}
 use Rattle.reader.specs.Steps.{exchanged, no_exchange, with_fields, exchange_of, tunnel_of}
 use Rattle.reader.proofs.Steps.{address_tunnelled, address_exchanged}
@@ -52,13 +52,13 @@ not_plain type n e = go (eqb type 0) refl
 
 module _ (bytes : List ℕ) (m : Message) (e : begun_of bytes ≡ Address m) where
   given : address_of bytes (header bytes) ≡ m
-  given = outer-given bytes m e
+  given = outer_given bytes m e
 
   body_is : body_of m ≡ body_by (header bytes)
-  body_is = outer-body bytes m e
+  body_is = outer_body bytes m e
 
   fixed : fixed_at (header bytes) ≤ length bytes
-  fixed = outer_fixed bytes (outer-none bytes m e)
+  fixed = outer_fixed bytes (outer_none bytes m e)
 
   kind : m.tunnelled ≡ bit (header bytes) 10
   unfolding address_of
@@ -71,10 +71,10 @@ module _ (bytes : List ℕ) (m : Message) (e : begun_of bytes ≡ Address m) whe
   unfolding address_of with_fields
   no_fields = subst (λ (v : Message). with_fields v (no_exchange 0) ≡ v) given refl
 
-  pub check-unless-plain : check_length m ≡ only (not (eqb m.encrypt 0)) check_bytes
+  pub check_unless_plain : check_length m ≡ only (not (eqb m.encrypt 0)) check_bytes
   unfolding message_of exchanged_by address_of
-  check-unless-plain =
-      let clear = outer_clear bytes (message_of bytes) (none_first (outer_order bytes (message_of bytes)) (outer_numbered bytes (message_of bytes)) (outer-none bytes m e)) in
+  check_unless_plain =
+      let clear = outer_clear bytes (message_of bytes) (none_first (outer_order bytes (message_of bytes)) (outer_numbered bytes (message_of bytes)) (outer_none bytes m e)) in
       subst (λ (v : Message). check_length v ≡ only (not (eqb v.encrypt 0)) check_bytes) given (not_plain (address_of bytes (header bytes)).encrypt check_bytes clear.encrypt)
 
   room : (tunnelled : Bool) → m.tunnelled ≡ tunnelled → body_of m + cond tunnelled 2 8 + check_length m ≤ length bytes
@@ -88,22 +88,22 @@ module _ (bytes : List ℕ) (m : Message) (e : begun_of bytes ≡ Address m) whe
   pub tunnel_room : m.tunnelled ≡ true → body_of m + 2 + check_length m ≤ length bytes
   tunnel_room = room true
 
-  pub exchange-room : m.tunnelled ≡ false → body_of m + 8 + check_length m ≤ length bytes
-  exchange-room = room false
+  pub exchange_room : m.tunnelled ≡ false → body_of m + 8 + check_length m ≤ length bytes
+  exchange_room = room false
 
   to_body : read_of bytes ≡ reading (first_refusal (body_order bytes (message_of bytes))) (message_of bytes)
   unfolding read_of reading_order
   to_body =
       ap (λ (r : Refusal). reading r (message_of bytes))
-      (first_pass (outer_order bytes (message_of bytes)) (body_order bytes (message_of bytes)) (outer_numbered bytes (message_of bytes)) (outer-none bytes m e))
+      (first_pass (outer_order bytes (message_of bytes)) (body_order bytes (message_of bytes)) (outer_numbered bytes (message_of bytes)) (outer_none bytes m e))
 
   by_tunnel : m.tunnelled ≡ true → reading (first_refusal (body_order bytes m)) m ≡ reading (first_refusal (tunnel_order bytes m)) m
   unfolding body_order
   by_tunnel t = ap (λ (k : Bool). reading (first_refusal (cond k (tunnel_order bytes m) (exchange_order (exchange_header bytes) (length bytes) m))) m) t
 
-  pub read-tunnelled : m.tunnelled ≡ true → read_of bytes ≡ tunnel_of bytes m
+  pub read_tunnelled : m.tunnelled ≡ true → read_of bytes ≡ tunnel_of bytes m
   unfolding tunnel_of
-  read-tunnelled t =
+  read_tunnelled t =
       let v : m ≡ message_of bytes = sym given ∙ address_tunnelled bytes (sym kind ∙ t) in
       to_body ∙ subst (λ (w : Message). reading (first_refusal (body_order bytes w)) w ≡ reading (first_refusal (tunnel_order bytes m)) m) v (by_tunnel t)
 
@@ -122,9 +122,9 @@ module _ (bytes : List ℕ) (m : Message) (e : begun_of bytes ≡ Address m) whe
   by_exchange t =
       ap (λ (k : Bool). reading (first_refusal (cond k (tunnel_order bytes (exchanged m bytes (body_of m))) (exchange_order (exchange_header bytes) (length bytes) (exchanged m bytes (body_of m))))) (exchanged m bytes (body_of m))) t
 
-  pub read-general : m.tunnelled ≡ false → read_of bytes ≡ exchange_of bytes m
+  pub read_general : m.tunnelled ≡ false → read_of bytes ≡ exchange_of bytes m
   unfolding exchange_of
-  read-general t =
+  read_general t =
       to_body
       ∙ ap (λ (w : Message). reading (first_refusal (body_order bytes w)) w) (value_is t)
       ∙ by_exchange t

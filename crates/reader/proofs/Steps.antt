@@ -50,23 +50,23 @@ module _ (bytes : List ℕ) (m : Message) (at : ℕ) (e : at ≡ body_of m) wher
       ∙ ap₂ (λ (a b : Bool). by_three at a b (bad_packet_length (up_to_check m (at + 1) bytes))) f g
       ∙ ap (by_three at v p) h
 
-  pub tunnel-version : bad_tunnel (get_or bytes at 0) ≡ true → tunnel_of bytes m ≡ Refused (record { number = 12; offset = at })
+  pub tunnel_version : bad_tunnel (get_or bytes at 0) ≡ true → tunnel_of bytes m ≡ Refused (record { number = 12; offset = at })
   unfolding by_three
-  tunnel-version f = by_tunnel true _ _ f refl refl
+  tunnel_version f = by_tunnel true _ _ f refl refl
 
-  pub tunnel-packet : bad_tunnel (get_or bytes at 0) ≡ false → bad_packet (get_or bytes (at + 1) 0) ≡ true → tunnel_of bytes m ≡ Refused (record { number = 13; offset = at + 1 })
+  pub tunnel_packet : bad_tunnel (get_or bytes at 0) ≡ false → bad_packet (get_or bytes (at + 1) 0) ≡ true → tunnel_of bytes m ≡ Refused (record { number = 13; offset = at + 1 })
   unfolding by_three
-  tunnel-packet f g = by_tunnel false true _ f g refl
+  tunnel_packet f g = by_tunnel false true _ f g refl
 
-  pub tunnel-length : bad_tunnel (get_or bytes at 0) ≡ false → bad_packet (get_or bytes (at + 1) 0) ≡ false → bad_packet_length (up_to_check m (at + 1) bytes) ≡ true
+  pub tunnel_length : bad_tunnel (get_or bytes at 0) ≡ false → bad_packet (get_or bytes (at + 1) 0) ≡ false → bad_packet_length (up_to_check m (at + 1) bytes) ≡ true
       → tunnel_of bytes m ≡ Refused (record { number = 27; offset = at + 1 })
   unfolding by_three
-  tunnel-length f g h = by_tunnel false false true f g h
+  tunnel_length f g h = by_tunnel false false true f g h
 
-  pub tunnel-whole : bad_tunnel (get_or bytes at 0) ≡ false → bad_packet (get_or bytes (at + 1) 0) ≡ false → bad_packet_length (up_to_check m (at + 1) bytes) ≡ false
+  pub tunnel_whole : bad_tunnel (get_or bytes at 0) ≡ false → bad_packet (get_or bytes (at + 1) 0) ≡ false → bad_packet_length (up_to_check m (at + 1) bytes) ≡ false
       → tunnel_of bytes m ≡ as_taken m
   unfolding by_three
-  tunnel-whole f g h = by_tunnel false false false f g h
+  tunnel_whole f g h = by_tunnel false false false f g h
 
 -- a general one, whose exchange header is x: the header is refused, A or R is, what is left to decide is A's room
 module _ (bytes : List ℕ) (m : Message) (x : ℕ) (e : x ≡ little (part bytes (body_of m) 1)) where
@@ -78,15 +78,15 @@ module _ (bytes : List ℕ) (m : Message) (x : ℕ) (e : x ≡ little (part byte
       (ap bad_exchange (sym e) ∙ f)
       (ap (λ (y : ℕ). old_asks m.version (bit y 1) (bit y 2)) (sym e) ∙ g)
 
-  pub exchange-header : bad_exchange x ≡ true → exchange_of bytes m ≡ Refused (record { number = 10; offset = body_of m })
-  exchange-header f = by_header true _ f refl
+  pub exchange_header_lem : bad_exchange x ≡ true → exchange_of bytes m ≡ Refused (record { number = 10; offset = body_of m })
+  exchange_header_lem f = by_header true _ f refl
 
-  pub exchange-asks : bad_exchange x ≡ false → old_asks m.version (bit x 1) (bit x 2) ≡ true → exchange_of bytes m ≡ Refused (record { number = 11; offset = body_of m })
-  exchange-asks f g = by_header false true f g
+  pub exchange_asks : bad_exchange x ≡ false → old_asks m.version (bit x 1) (bit x 2) ≡ true → exchange_of bytes m ≡ Refused (record { number = 11; offset = body_of m })
+  exchange_asks f g = by_header false true f g
 
-  pub exchange-fields : bad_exchange x ≡ false → old_asks m.version (bit x 1) (bit x 2) ≡ false → exchange_of bytes m ≡ fields_of bytes m
+  pub exchange_fields : bad_exchange x ≡ false → old_asks m.version (bit x 1) (bit x 2) ≡ false → exchange_of bytes m ≡ fields_of bytes m
   unfolding fields_of
-  exchange-fields f g = by_header false false f g
+  exchange_fields f g = by_header false false f g
 
 -- that room: the four bytes end before the check
 room_steps : (n : ℕ) (m : Message) (bytes : List ℕ) (at x end : ℕ) → m.tunnelled ≡ false → end ≡ body_of m + 8 + 4 + check_length m
@@ -108,14 +108,14 @@ module _ (bytes : List ℕ) (m : Message) (end : ℕ) (t : m.tunnelled ≡ false
       (room_steps (length bytes) m bytes (body_of m) (little (part bytes (body_of m) 1)) end t n ∙ h)
 
   -- without A; with A and no room for its bytes; with A and room
-  pub fields-bare : bit (little (part bytes (body_of m) 1)) 1 ≡ false → fields_of bytes m ≡ as_taken (exchanged m bytes (body_of m))
+  pub fields_bare : bit (little (part bytes (body_of m) 1)) 1 ≡ false → fields_of bytes m ≡ as_taken (exchanged m bytes (body_of m))
   unfolding x
-  fields-bare h = by_room false (ap (λ (a : Bool). a && ltb (length bytes) end) h)
+  fields_bare h = by_room false (ap (λ (a : Bool). a && ltb (length bytes) end) h)
 
-  pub fields-lack : bit (little (part bytes (body_of m) 1)) 1 ≡ true → length bytes < end → fields_of bytes m ≡ Refused (record { number = 2; offset = length bytes })
+  pub fields_lack : bit (little (part bytes (body_of m) 1)) 1 ≡ true → length bytes < end → fields_of bytes m ≡ Refused (record { number = 2; offset = length bytes })
   unfolding x
-  fields-lack h l = by_room true (ap (λ (a : Bool). a && ltb (length bytes) end) h ∙ lt-ltb _ _ l)
+  fields_lack h l = by_room true (ap (λ (a : Bool). a && ltb (length bytes) end) h ∙ lt-ltb _ _ l)
 
-  pub fields-whole : bit (little (part bytes (body_of m) 1)) 1 ≡ true → end ≤ length bytes → fields_of bytes m ≡ as_taken (exchanged m bytes (body_of m))
+  pub fields_whole : bit (little (part bytes (body_of m) 1)) 1 ≡ true → end ≤ length bytes → fields_of bytes m ≡ as_taken (exchanged m bytes (body_of m))
   unfolding x
-  fields-whole h l = by_room false (ap (λ (a : Bool). a && ltb (length bytes) end) h ∙ le-ltb _ _ l)
+  fields_whole h l = by_room false (ap (λ (a : Bool). a && ltb (length bytes) end) h ∙ le-ltb _ _ l)

@@ -62,22 +62,22 @@ module _ (b : Beside) (bytes : List ℕ) (full : Bool) where
         (none_right (reading_order bytes) (after_reading b (message_of bytes) full) all)
 
     -- the sender is somebody, and the key id of an encrypted message is of type 1 or 2
-    pub sender-is-somebody : nobody (sender_of b.link (message_of bytes)) ≡ false
+    pub sender_is_somebody : nobody (sender_of b.link (message_of bytes)) ≡ false
     unfolding delivery_order
-    sender-is-somebody = sym (link_is_sender b.link (sender_of b.link (message_of bytes)) (message_of bytes) refl read.outer.source) ∙ delivered.1.0
+    sender_is_somebody = sym (link_is_sender b.link (sender_of b.link (message_of bytes)) (message_of bytes) refl read.outer.source) ∙ delivered.1.0
 
-    pub key-is-good : bad_key (message_of bytes).encrypt (message_of bytes).key ≡ false
-    key-is-good = read.outer.key
+    pub key_is_good : bad_key (message_of bytes).encrypt (message_of bytes).key ≡ false
+    key_is_good = read.outer.key
 
     -- there is a row to be had
-    pub has-row : full ≡ false
+    pub has_row : full ≡ false
     unfolding admission_order
-    has-row = last.1.1.0
+    has_row = last.1.1.0
 
     -- an acknowledgement that is wanted is written
-    pub is-acknowledged : (message_of bytes).wants ≡ true → acknowledging (answer_to b (message_of bytes)) b.room ≡ Written (total (answer_to b (message_of bytes)) [])
+    pub is_acknowledged : (message_of bytes).wants ≡ true → acknowledging (answer_to b (message_of bytes)) b.room ≡ Written (total (answer_to b (message_of bytes)) [])
     unfolding admission_order acknowledging
-    is-acknowledged w = go (acknowledging (answer_to b (message_of bytes)) b.room) refl (message_of bytes).wants w last.0 last.1.0
+    is_acknowledged w = go (acknowledging (answer_to b (message_of bytes)) b.room) refl (message_of bytes).wants w last.0 last.1.0
       where
         go : (a : Writing) → acknowledging (answer_to b (message_of bytes)) b.room ≡ a → (wants : Bool) → wants ≡ true → (wants && unwritable a) ≡ false → (wants && lacks_room a) ≡ false
             → a ≡ Written (total (answer_to b (message_of bytes)) [])
@@ -86,9 +86,9 @@ module _ (b : Beside) (bytes : List ℕ) (full : Bool) where
         go a e false w p q = clash false w refl
 
     -- so there is room for it
-    pub acknowledgement-fits : only (message_of bytes).wants (total (answer_to b (message_of bytes)) []) ≤ b.room
+    pub acknowledgement_fits : only (message_of bytes).wants (total (answer_to b (message_of bytes)) []) ≤ b.room
     unfolding acknowledging
-    acknowledgement-fits = go (message_of bytes).wants is-acknowledged
+    acknowledgement_fits = go (message_of bytes).wants is_acknowledged
       where
         go : (wants : Bool) → (wants ≡ true → acknowledging (answer_to b (message_of bytes)) b.room ≡ Written (total (answer_to b (message_of bytes)) []))
             → only wants (total (answer_to b (message_of bytes)) []) ≤ b.room

@@ -44,9 +44,9 @@ unfolding delivery_order
 delivery_at_zero own link passed m = refl
 
 module _ (b : Beside) (m : Message) (h : Head) (t : List ℕ) where
-  pub not-delivered : (number : ℕ) → (number ≡ 0 → ⊥) → number ≡ first (delivery_order b.own b.link b.passed m) → first_refusal (after_reading b m (no_row t (sender_of b.link m) m.key)) ≡ refusal number
+  pub not_delivered : (number : ℕ) → (number ≡ 0 → ⊥) → number ≡ first (delivery_order b.own b.link b.passed m) → first_refusal (after_reading b m (no_row t (sender_of b.link m) m.key)) ≡ refusal number
   unfolding after_reading
-  not-delivered number n e =
+  not_delivered number n e =
       first_hit (delivery_order b.own b.link b.passed m) (admission_order (answer_to b m) b.room m (no_row t (sender_of b.link m) m.key)) (λ z. n (e ∙ z))
       ∙ first_at_zero (delivery_order b.own b.link b.passed m) (delivery_at_zero b.own b.link b.passed m)
       ∙ ap refusal (sym e)
@@ -76,42 +76,42 @@ module _ (b : Beside) (m : Message) (h : Head) (t : List ℕ) where
 
 module _ (b : Beside) (bytes t : List ℕ) where
   -- whether there is no row to be had
-  abbrev pub full-for : Message → Bool
-  full-for m = no_row t (sender_of b.link m) m.key
+  abbrev pub full_for_lem : Message → Bool
+  full_for_lem m = no_row t (sender_of b.link m) m.key
 
-  pub own-refused : nobody b.own ≡ true → Received.Refused (refusal 15) ≡ receive_of b bytes t
+  pub own_refused : nobody b.own ≡ true → Received.Refused (refusal 15) ≡ receive_of b bytes t
   unfolding receiving_order receive_of
-  own-refused e =
-      refuses (refusal 15) (first_refusal (receiving_order b bytes (full-for (message_of bytes)))) (verdict_in t (sender_of b.link (message_of bytes)) (message_of bytes)) (answer_to b (message_of bytes)) (message_of bytes) (head_of (message_of bytes)) (λ z. omega arith)
-      (ap (λ (x : Bool). first_refusal (15 when x ∷ reading_order bytes ++ after_reading b (message_of bytes) (full-for (message_of bytes)))) e)
+  own_refused e =
+      refuses (refusal 15) (first_refusal (receiving_order b bytes (full_for_lem (message_of bytes)))) (verdict_in t (sender_of b.link (message_of bytes)) (message_of bytes)) (answer_to b (message_of bytes)) (message_of bytes) (head_of (message_of bytes)) (λ z. omega arith)
+      (ap (λ (x : Bool). first_refusal (15 when x ∷ reading_order bytes ++ after_reading b (message_of bytes) (full_for_lem (message_of bytes)))) e)
 
   module _ (own : nobody b.own ≡ false) where
-    after_own : first_refusal (receiving_order b bytes (full-for (message_of bytes))) ≡ first_refusal (reading_order bytes ++ after_reading b (message_of bytes) (full-for (message_of bytes)))
+    after_own : first_refusal (receiving_order b bytes (full_for_lem (message_of bytes))) ≡ first_refusal (reading_order bytes ++ after_reading b (message_of bytes) (full_for_lem (message_of bytes)))
     unfolding receiving_order
-    after_own = ap (λ (x : Bool). first_refusal (15 when x ∷ reading_order bytes ++ after_reading b (message_of bytes) (full-for (message_of bytes)))) own
+    after_own = ap (λ (x : Bool). first_refusal (15 when x ∷ reading_order bytes ++ after_reading b (message_of bytes) (full_for_lem (message_of bytes)))) own
 
     -- what reading refuses is the answer as it is, number and offset
-    pub not-read : (r : Refusal) → read_of bytes ≡ Reading.Refused r → Received.Refused r ≡ receive_of b bytes t
+    pub not_read : (r : Refusal) → read_of bytes ≡ Reading.Refused r → Received.Refused r ≡ receive_of b bytes t
     unfolding read_of receive_of answer_of
-    not-read r e = go (eqb (first (reading_order bytes)) 0) refl e
+    not_read r e = go (eqb (first (reading_order bytes)) 0) refl e
       where
         go : (none : Bool) → eqb (first (reading_order bytes)) 0 ≡ none → cond none (as_taken (message_of bytes)) (Reading.Refused (first_refusal (reading_order bytes))) ≡ Reading.Refused r → Received.Refused r ≡ receive_of b bytes t
         go true k f = let z : ◌≡◌ {A = ℕ} 0 1 = cc in let w : ⊥ = omega arith in absurd w
         go false k f =
             let s : first_refusal (reading_order bytes) ≡ r = cc in
             let hit = eqb-false _ _ k in
-            refuses r (first_refusal (receiving_order b bytes (full-for (message_of bytes)))) (verdict_in t (sender_of b.link (message_of bytes)) (message_of bytes)) (answer_to b (message_of bytes)) (message_of bytes) (head_of (message_of bytes)) (λ z. hit (ap number_of s ∙ z))
-            (after_own ∙ first_hit (reading_order bytes) (after_reading b (message_of bytes) (full-for (message_of bytes))) hit ∙ s)
+            refuses r (first_refusal (receiving_order b bytes (full_for_lem (message_of bytes)))) (verdict_in t (sender_of b.link (message_of bytes)) (message_of bytes)) (answer_to b (message_of bytes)) (message_of bytes) (head_of (message_of bytes)) (λ z. hit (ap number_of s ∙ z))
+            (after_own ∙ first_hit (reading_order bytes) (after_reading b (message_of bytes) (full_for_lem (message_of bytes))) hit ∙ s)
 
     -- the value that was read is that of the bytes
     pub is_read : (m : Message) (h : Head) → read_of bytes ≡ Reading.Taken m h
-        → answer_of (first_refusal (after_reading b m (full-for m))) (verdict_in t (sender_of b.link m) m) (answer_to b m) m h ≡ receive_of b bytes t
+        → answer_of (first_refusal (after_reading b m (full_for_lem m))) (verdict_in t (sender_of b.link m) m) (answer_to b m) m h ≡ receive_of b bytes t
     unfolding receive_of
     is_read m h e =
-        ap (λ (x : Head). answer_of (first_refusal (after_reading b m (full-for m))) (verdict_in t (sender_of b.link m) m) (answer_to b m) m x) (head_taken bytes m h e)
-        ∙ ap (λ (x : Message). answer_of (first_refusal (after_reading b x (full-for x))) (verdict_in t (sender_of b.link x) x) (answer_to b x) x (head_of x)) (sym (taken bytes m e).0)
+        ap (λ (x : Head). answer_of (first_refusal (after_reading b m (full_for_lem m))) (verdict_in t (sender_of b.link m) m) (answer_to b m) m x) (head_taken bytes m h e)
+        ∙ ap (λ (x : Message). answer_of (first_refusal (after_reading b x (full_for_lem x))) (verdict_in t (sender_of b.link x) x) (answer_to b x) x (head_of x)) (sym (taken bytes m e).0)
         ∙ ap (λ (r : Refusal). answer_of r (verdict_in t (sender_of b.link (message_of bytes)) (message_of bytes)) (answer_to b (message_of bytes)) (message_of bytes) (head_of (message_of bytes)))
-        (sym (after_own ∙ first_miss (reading_order bytes) (after_reading b (message_of bytes) (full-for (message_of bytes))) (taken_legal bytes m e)))
+        (sym (after_own ∙ first_miss (reading_order bytes) (after_reading b (message_of bytes) (full_for_lem (message_of bytes))) (taken_legal bytes m e)))
 
   -- all three, of the value that was read or of any
   pub receives : (m : Message) (old : List ℕ) (answer : Received) (after buffer : List ℕ) → m ≡ message_of bytes → answer ≡ receive_of b bytes t
@@ -127,7 +127,7 @@ module _ (b : Beside) (bytes t : List ℕ) where
   )
 
   -- and where it refuses
-  pub receives-none : (r : Refusal) (old : List ℕ) (answer : Received) → answer ≡ Received.Refused r → answer ≡ receive_of b bytes t
+  pub receives_none : (r : Refusal) (old : List ℕ) (answer : Received) → answer ≡ Received.Refused r → answer ≡ receive_of b bytes t
       → (answer ≡ receive_of b bytes t) × ((t ≡ receive_table b bytes t) × (old ≡ receive_buffer b bytes t old))
-  receives-none r old answer e ea =
+  receives_none r old answer e ea =
       receives (message_of bytes) old answer t old refl ea (keeps_table answer r (sender_of b.link (message_of bytes)) (message_of bytes) t e) (keeps_buffer answer r (answer_to b (message_of bytes)) (message_of bytes) old e)

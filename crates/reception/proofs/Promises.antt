@@ -2,18 +2,18 @@
 -- calls comes to is in the crate `history`. Assumes nothing.
 
 -- The condition of 20 holds exactly when the name has no row and all rows are in use.
-pub use Rattle.admission.proofs.Places.{full-says, full-when}
+pub use Rattle.admission.proofs.Places.{full_says, full_when}
 -- Only one outcome fits `receive`, and one `remove`.
-pub use Rattle.reception.proofs.Outcomes.{one-receipt, one-removal}
+pub use Rattle.reception.proofs.Outcomes.{one_receipt, one_removal}
 -- A removal leaves all other rows and words as they were, and all of the table if it refuses, at no byte; the row removed is free and zero, and is the one
 -- used again where it is the lowest free.
-pub use Rattle.reception.proofs.Removal.{refused-removal-changes-nothing, removal-points-at-no-byte, removal-touches-one-row, removal-touches-three-words, removal-keeps-the-length}
-pub use Rattle.reception.proofs.Removal.{removed-words-are-zero, removed-row-is-free-and-zero, removed-name-has-no-row, removed-row-is-the-lowest-free, removed-row-is-used-again}
+pub use Rattle.reception.proofs.Removal.{refused_removal_changes_nothing, removal_points_at_no_byte, removal_touches_one_row, removal_touches_three_words, removal_keeps_the_length}
+pub use Rattle.reception.proofs.Removal.{removed_words_are_zero, removed_row_is_free_and_zero, removed_name_has_no_row, removed_row_is_the_lowest_free, removed_row_is_used_again}
 -- What is written: the front of the buffer, as long as the answer says, 34 or 56 bytes that read back, or nothing where R is not set.
 pub use Rattle.reception.proofs.Replies.{acknowledgement_length, acknowledgement_is_sized, acknowledgement_reads_back}
-pub use Rattle.reception.proofs.Replies.{changes-the-front-only, gives-value-and-length, keeps-the-buffer-length, what-is-written-reads-back}
+pub use Rattle.reception.proofs.Replies.{changes_the_front_only, gives_value_and_length, keeps_the_buffer_length, what_is_written_reads_back}
 -- A verdict is given only to a message that reading takes.
-pub use Rattle.reception.proofs.WasRead.{new-was-read, duplicate-was-read}
+pub use Rattle.reception.proofs.WasRead.{new_was_read, duplicate_was_read}
 use Prim.Native.Nat.{ℕ, ◌+◌, ◌*◌, ◌<◌}
 use mathlib.Core.Path.{◌≡◌, refl, sym, ap, ◌∙◌}
 use mathlib.Core.Bool.{Bool, true, false, cond}
@@ -44,8 +44,8 @@ use Rattle.admission.specs.declared.answers.Received.{Received}
 use Rattle.admission.specs.declared.answers.Received.TheVariants as Received
 use Rattle.admission.proofs.Orders.{refuses, keeps_table, keeps_buffer}
 use Rattle.reception.specs.Receiving.{Beside, sender_of, delivery_order, answer_to, after_reading, receiving_order, receive_of, receive_table, receive_buffer}
-use Rattle.reception.proofs.Orders.{own-refused, not-read, is_read, full-for}
-use Rattle.reception.proofs.Unwritable.{never-22}
+use Rattle.reception.proofs.Orders.{own_refused, not_read, is_read, full_for_lem}
+use Rattle.reception.proofs.Unwritable.{never_22}
 
 -- ---- a refusal, its number and its byte
 
@@ -75,22 +75,22 @@ after_reading_at_no_byte b m h full verdict r e =
 
 module _ (b : Beside) (bytes t : List ℕ) where
   -- A refused call leaves table and buffer as they were, all of them.
-  pub refused-changes-nothing : (r : Refusal) (old : List ℕ) → receive_of b bytes t ≡ Received.Refused r → (receive_table b bytes t ≡ t) × (receive_buffer b bytes t old ≡ old)
+  pub refused_changes_nothing : (r : Refusal) (old : List ℕ) → receive_of b bytes t ≡ Received.Refused r → (receive_table b bytes t ≡ t) × (receive_buffer b bytes t old ≡ old)
   unfolding receive_table receive_buffer
-  refused-changes-nothing r old e = (
+  refused_changes_nothing r old e = (
     sym (keeps_table (receive_of b bytes t) r (sender_of b.link (message_of bytes)) (message_of bytes) t e),
     sym (keeps_buffer (receive_of b bytes t) r (answer_to b (message_of bytes)) (message_of bytes) old e),
   )
 
   -- A duplicate changes no row, though it is acknowledged.
-  pub duplicate-changes-no-row : (m : Message) (h : Head) (n : ℕ) → receive_of b bytes t ≡ Received.Duplicate m h n → receive_table b bytes t ≡ t
+  pub duplicate_changes_no_row : (m : Message) (h : Head) (n : ℕ) → receive_of b bytes t ≡ Received.Duplicate m h n → receive_table b bytes t ≡ t
   unfolding receive_table table_by
-  duplicate-changes-no-row m h n e = ap (λ (a : Received). table_by a (sender_of b.link (message_of bytes)) (message_of bytes) t) e
+  duplicate_changes_no_row m h n e = ap (λ (a : Received). table_by a (sender_of b.link (message_of bytes)) (message_of bytes) t) e
 
   -- No call changes another row than that of its name.
-  pub touches-one-row : (j : ℕ) → (j ≡ row_for t (sender_of b.link (message_of bytes)) (message_of bytes).key → ⊥) → row_of (receive_table b bytes t) j ≡ row_of t j
+  pub touches_one_row : (j : ℕ) → (j ≡ row_for t (sender_of b.link (message_of bytes)) (message_of bytes).key → ⊥) → row_of (receive_table b bytes t) j ≡ row_of t j
   unfolding receive_table table_by
-  touches-one-row j n = go (receive_of b bytes t)
+  touches_one_row j n = go (receive_of b bytes t)
     where
       go : (a : Received) → row_of (table_by a (sender_of b.link (message_of bytes)) (message_of bytes) t) j ≡ row_of t j
       go (Received.New m h len) = other_row t _ j _ n
@@ -98,11 +98,11 @@ module _ (b : Beside) (bytes t : List ℕ) where
       go (Received.Refused r) = refl
 
   -- Nor any other word than that row's three.
-  pub touches-three-words : (k : ℕ)
+  pub touches_three_words : (k : ℕ)
       → let place : ℕ = row_for t (sender_of b.link (message_of bytes)) (message_of bytes).key in
       (k ≡ 3 * place → ⊥) → (k ≡ 3 * place + 1 → ⊥) → (k ≡ 3 * place + 2 → ⊥) → get_or (receive_table b bytes t) k 0 ≡ get_or t k 0
   unfolding receive_table table_by
-  touches-three-words k n₀ n₁ n₂ = go (receive_of b bytes t)
+  touches_three_words k n₀ n₁ n₂ = go (receive_of b bytes t)
     where
       go : (a : Received) → get_or (table_by a (sender_of b.link (message_of bytes)) (message_of bytes) t) k 0 ≡ get_or t k 0
       go (Received.New m h len) = other_word t _ k _ n₀ n₁ n₂
@@ -112,41 +112,41 @@ module _ (b : Beside) (bytes t : List ℕ) where
   -- ---- each refusal exactly when its condition is the first in the order to hold
 
   -- A refusal is given only where its condition is the first to hold in the whole order, 15 and all of reading included.
-  pub receiving-refused-first : (r : Refusal) → receive_of b bytes t ≡ Received.Refused r
+  pub receiving_refused_first : (r : Refusal) → receive_of b bytes t ≡ Received.Refused r
       → FirstToHold r (receiving_order b bytes (no_row t (sender_of b.link (message_of bytes)) (message_of bytes).key))
   unfolding receive_of
-  receiving-refused-first r e = let p = refused_of _ r _ _ _ _ e in holds_first r _ p.1 p.0
+  receiving_refused_first r e = let p = refused_of _ r _ _ _ _ e in holds_first r _ p.1 p.0
 
   -- And wherever it is.
-  pub receiving-first-refused : (r : Refusal) → 0 < r.number → FirstToHold r (receiving_order b bytes (no_row t (sender_of b.link (message_of bytes)) (message_of bytes).key))
+  pub receiving_first_refused : (r : Refusal) → 0 < r.number → FirstToHold r (receiving_order b bytes (no_row t (sender_of b.link (message_of bytes)) (message_of bytes).key))
       → receive_of b bytes t ≡ Received.Refused r
   unfolding receive_of
-  receiving-first-refused r l w =
+  receiving_first_refused r l w =
       sym (refuses r (first_refusal (receiving_order b bytes (no_row t (sender_of b.link (message_of bytes)) (message_of bytes).key))) (verdict_in t (sender_of b.link (message_of bytes)) (message_of bytes)) (answer_to b (message_of bytes)) (message_of bytes) (head_of (message_of bytes)) (λ z. omega arith) (first_holds r _ w))
 
   -- ---- the byte at fault
 
   -- Where the own node is somebody's (15 comes first), what reading refuses, receiving refuses with the same number and at the same byte.
-  pub passes-on-what-reading-refuses : (r : Refusal) → nobody b.own ≡ false → read_of bytes ≡ Reading.Refused r → receive_of b bytes t ≡ Received.Refused r
-  passes-on-what-reading-refuses r own e = sym (not-read b bytes t own r e)
+  pub passes_on_what_reading_refuses : (r : Refusal) → nobody b.own ≡ false → read_of bytes ≡ Reading.Refused r → receive_of b bytes t ≡ Received.Refused r
+  passes_on_what_reading_refuses r own e = sym (not_read b bytes t own r e)
 
   -- A refusal that is not reading's points at no byte: its offset is 0.
-  pub others-point-at-no-byte : (r : Refusal) → receive_of b bytes t ≡ Received.Refused r → (read_of bytes ≡ Reading.Refused r) ⊎ (r.offset ≡ 0)
-  others-point-at-no-byte r e = by_own (nobody b.own) refl
+  pub others_point_at_no_byte : (r : Refusal) → receive_of b bytes t ≡ Received.Refused r → (read_of bytes ≡ Reading.Refused r) ⊎ (r.offset ≡ 0)
+  others_point_at_no_byte r e = by_own (nobody b.own) refl
     where
       same : {p q : Refusal} → Received.Refused p ≡ Received.Refused q → p ≡ q
       same f = cc
 
       by_reading : nobody b.own ≡ false → (a : Reading) → read_of bytes ≡ a → (read_of bytes ≡ Reading.Refused r) ⊎ (r.offset ≡ 0)
-      by_reading own (Reading.Taken m h) f = inr (after_reading_at_no_byte b m h (full-for b bytes t m) _ r (is_read b bytes t own m h f ∙ e))
-      by_reading own (Reading.Refused q) f = inl (f ∙ ap Reading.Refused (same (sym (passes-on-what-reading-refuses q own f) ∙ e)))
+      by_reading own (Reading.Taken m h) f = inr (after_reading_at_no_byte b m h (full_for_lem b bytes t m) _ r (is_read b bytes t own m h f ∙ e))
+      by_reading own (Reading.Refused q) f = inl (f ∙ ap Reading.Refused (same (sym (passes_on_what_reading_refuses q own f) ∙ e)))
 
       by_own : (x : Bool) → nobody b.own ≡ x → (read_of bytes ≡ Reading.Refused r) ⊎ (r.offset ≡ 0)
-      by_own true own = inr (ap (λ (q : Refusal). q.offset) (sym (same (own-refused b bytes t own ∙ e))))
+      by_own true own = inr (ap (λ (q : Refusal). q.offset) (sym (same (own_refused b bytes t own ∙ e))))
       by_own false own = by_reading own (read_of bytes) refl
 
   -- 22 is never said: a message that gets so far has an acknowledgement that can be refused for want of room only.
-  pub unwritable-never : (r : Refusal) → receive_of b bytes t ≡ Received.Refused r → r.number ≡ 22 → ⊥
-  unwritable-never r e n =
-      never-22 b bytes (no_row t (sender_of b.link (message_of bytes)) (message_of bytes).key)
-      (ap number_of (first_holds r _ (receiving-refused-first r e)) ∙ n)
+  pub unwritable_never : (r : Refusal) → receive_of b bytes t ≡ Received.Refused r → r.number ≡ 22 → ⊥
+  unwritable_never r e n =
+      never_22 b bytes (no_row t (sender_of b.link (message_of bytes)) (message_of bytes).key)
+      (ap number_of (first_holds r _ (receiving_refused_first r e)) ∙ n)

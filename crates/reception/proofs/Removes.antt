@@ -19,8 +19,8 @@ module _ (t : List ℕ) (node key i : ℕ) (e : i ≡ find_of rows t node key) w
         p ∙ put_within t i freed l ∙ ap (λ (k : ℕ). with_row t k freed) e ∙ sym (ap (λ (b : Bool). cond b (with_row t (find_of rows t node key) freed) t) h),
       )
 
-  pub removes-none : rows ≤ i → (Refused (refusal 21) ≡ remove_of t node key) × (t ≡ remove_table t node key)
+  pub removes_none : rows ≤ i → (Refused (refusal 21) ≡ remove_of t node key) × (t ≡ remove_table t node key)
   unfolding remove_of remove_table
-  removes-none l =
+  removes_none l =
       let h = le-ltb (find_of rows t node key) rows (subst (λ (k : ℕ). rows ≤ k) e l) in
       (sym (ap (λ (b : Bool). cond b Done (Refused (refusal 21))) h), sym (ap (λ (b : Bool). cond b (with_row t (find_of rows t node key) freed) t) h))

@@ -26,8 +26,8 @@ use Rattle.admission.specs.Admission.{buffer_with, buffer_by}
 use Rattle.admission.specs.declared.answers.Received.{Received}
 use Rattle.admission.specs.declared.answers.Received.TheVariants as Received
 use Rattle.reception.specs.Receiving.{Beside, sender_of, answer_to, receive_of, receive_buffer}
-use Rattle.reception.proofs.Cleared.{acknowledgement-fits, is-acknowledged}
-use Rattle.reception.proofs.WasRead.{Said, new-said, duplicate-said, new-was-read, duplicate-was-read}
+use Rattle.reception.proofs.Cleared.{acknowledgement_fits, is_acknowledged}
+use Rattle.reception.proofs.WasRead.{Said, new_said, duplicate_said, new_was_read, duplicate_was_read}
 
 -- ---- the acknowledgement
 
@@ -72,19 +72,19 @@ length_acknowledgement b bytes = length_bytes (answer_to b (message_of bytes)) [
 
 module _ (b : Beside) (bytes t : List ℕ) where
   -- What a call writes is the front of the buffer, as long as its answer says: nothing where R is not set.
-  pub changes-the-front-only : (old : List ℕ) (m : Message) (h : Head) (n : ℕ) → (receive_of b bytes t ≡ Received.New m h n) ⊎ (receive_of b bytes t ≡ Received.Duplicate m h n)
+  pub changes_the_front_only : (old : List ℕ) (m : Message) (h : Head) (n : ℕ) → (receive_of b bytes t ≡ Received.New m h n) ⊎ (receive_of b bytes t ≡ Received.Duplicate m h n)
       → receive_buffer b bytes t old ≡ cond (message_of bytes).wants (acknowledgement_bytes (answer_to b (message_of bytes))) [] ++ drop n old
   unfolding receive_buffer buffer_by
-  changes-the-front-only old m h n = ⊎_elim by by
+  changes_the_front_only old m h n = ⊎_elim by by
     where
       by : {a : Received} → receive_of b bytes t ≡ a → buffer_by (receive_of b bytes t) (answer_to b (message_of bytes)) (message_of bytes) old ≡ buffer_by a (answer_to b (message_of bytes)) (message_of bytes) old
       by e = ap (λ (x : Received). buffer_by x (answer_to b (message_of bytes)) (message_of bytes) old) e
 
   -- A verdict comes with the value that reading gives, its head, and the acknowledgement's length: 34 bytes, 56 if encrypted, none where R is not set.
-  pub gives-value-and-length : (m : Message) (h : Head) (n : ℕ) → (receive_of b bytes t ≡ Received.New m h n) ⊎ (receive_of b bytes t ≡ Received.Duplicate m h n)
+  pub gives_value_and_length : (m : Message) (h : Head) (n : ℕ) → (receive_of b bytes t ≡ Received.New m h n) ⊎ (receive_of b bytes t ≡ Received.Duplicate m h n)
       → (read_of bytes ≡ Reading.Taken m h) × (message_of bytes ≡ m) × (n ≡ cond m.wants (cond (encrypted m) 56 34) 0)
-  gives-value-and-length m h n =
-      ⊎_elim (λ e. let w = new-said b bytes t m h n e in (new-was-read b bytes t m h n e, w.value, long w)) (λ e. let w = duplicate-said b bytes t m h n e in (duplicate-was-read b bytes t m h n e, w.value, long w))
+  gives_value_and_length m h n =
+      ⊎_elim (λ e. let w = new_said b bytes t m h n e in (new_was_read b bytes t m h n e, w.value, long w)) (λ e. let w = duplicate_said b bytes t m h n e in (duplicate_was_read b bytes t m h n e, w.value, long w))
     where
       go : (wants : Bool) → only wants (total (answer_to b (message_of bytes)) []) ≡ cond wants (cond (encrypted (message_of bytes)) 56 34) 0
       go true = acknowledgement_length b.own (sender_of b.link (message_of bytes)) b.id (message_of bytes)
@@ -94,9 +94,9 @@ module _ (b : Beside) (bytes t : List ℕ) where
       long w = sym w.reply ∙ go (message_of bytes).wants ∙ ap (λ (x : Message). cond x.wants (cond (encrypted x) 56 34) 0) w.value
 
   -- No call changes the buffer's length.
-  pub keeps-the-buffer-length : (old : List ℕ) → b.room ≡ length old → length (receive_buffer b bytes t old) ≡ length old
+  pub keeps_the_buffer_length : (old : List ℕ) → b.room ≡ length old → length (receive_buffer b bytes t old) ≡ length old
   unfolding receive_buffer buffer_by
-  keeps-the-buffer-length old room = go (receive_of b bytes t) refl
+  keeps_the_buffer_length old room = go (receive_of b bytes t) refl
     where
       sized : (wants : Bool) → length (cond wants (acknowledgement_bytes (answer_to b (message_of bytes))) []) ≡ only wants (total (answer_to b (message_of bytes)) [])
       sized true = length_acknowledgement b bytes
@@ -105,26 +105,26 @@ module _ (b : Beside) (bytes t : List ℕ) where
       fits : (m : Message) (h : Head) (n : ℕ) → Said b bytes t m h n
           → length (cond (message_of bytes).wants (acknowledgement_bytes (answer_to b (message_of bytes))) [] ++ drop n old) ≡ length old
       fits m h n w =
-          let room_for : n ≤ length old = omega (arith, room, w.reply, acknowledgement-fits b bytes _ w.clear) in
+          let room_for : n ≤ length old = omega (arith, room, w.reply, acknowledgement_fits b bytes _ w.clear) in
           length-append (cond (message_of bytes).wants (acknowledgement_bytes (answer_to b (message_of bytes))) []) (drop n old)
           ∙ omega (arith, sized (message_of bytes).wants, w.reply, length-drop n old, room_for)
 
       go : (a : Received) → receive_of b bytes t ≡ a → length (buffer_with a (cond (message_of bytes).wants (acknowledgement_bytes (answer_to b (message_of bytes))) []) old) ≡ length old
-      go (Received.New m h n) e = fits m h n (new-said b bytes t m h n e)
-      go (Received.Duplicate m h n) e = fits m h n (duplicate-said b bytes t m h n e)
+      go (Received.New m h n) e = fits m h n (new_said b bytes t m h n e)
+      go (Received.Duplicate m h n) e = fits m h n (duplicate_said b bytes t m h n e)
       go (Received.Refused r) e = refl
 
   -- Where R is set, the bytes at the front of the buffer, as many as the answer says, read back as the acknowledgement of the message.
-  pub what-is-written-reads-back : AllBytes bytes → b.own < 256 ^ 8 → b.link < 256 ^ 8 → b.id < 256 ^ 4
+  pub what_is_written_reads_back : AllBytes bytes → b.own < 256 ^ 8 → b.link < 256 ^ 8 → b.id < 256 ^ 4
       → (old : List ℕ) (m : Message) (h : Head) (n : ℕ) → (receive_of b bytes t ≡ Received.New m h n) ⊎ (receive_of b bytes t ≡ Received.Duplicate m h n) → m.wants ≡ true
       → SameRead (answer_to b m) [] (blank_check (answer_to b m)) (take n (receive_buffer b bytes t old))
-  what-is-written-reads-back all ours theirs given old m h n answer wants =
+  what_is_written_reads_back all ours theirs given old m h n answer wants =
       subst (λ (x : Message). SameRead (answer_to b x) [] (blank_check (answer_to b x)) (take n (receive_buffer b bytes t old))) said.value
       (subst⁻¹ (SameRead (answer_to b (message_of bytes)) [] (blank_check (answer_to b (message_of bytes)))) front
-      (acknowledgement_reads_back (answer_to b (message_of bytes)) b.room (total (answer_to b (message_of bytes)) []) sized (is-acknowledged b bytes _ said.clear asked)))
+      (acknowledgement_reads_back (answer_to b (message_of bytes)) b.room (total (answer_to b (message_of bytes)) []) sized (is_acknowledged b bytes _ said.clear asked)))
     where
       said : Said b bytes t m h n
-      said = ⊎_elim (new-said b bytes t m h n) (duplicate-said b bytes t m h n) answer
+      said = ⊎_elim (new_said b bytes t m h n) (duplicate_said b bytes t m h n) answer
 
       asked : (message_of bytes).wants ≡ true
       asked = ap (λ (x : Message). x.wants) said.value ∙ wants
@@ -141,5 +141,5 @@ module _ (b : Beside) (bytes t : List ℕ) where
 
       front : take n (receive_buffer b bytes t old) ≡ acknowledgement_bytes (answer_to b (message_of bytes))
       front =
-          ap (take n) (changes-the-front-only old m h n answer ∙ ap (λ (w : Bool). cond w (acknowledgement_bytes (answer_to b (message_of bytes))) [] ++ drop n old) asked)
+          ap (take n) (changes_the_front_only old m h n answer ∙ ap (λ (w : Bool). cond w (acknowledgement_bytes (answer_to b (message_of bytes))) [] ++ drop n old) asked)
           ∙ take_at (acknowledgement_bytes (answer_to b (message_of bytes))) (drop n old) n long

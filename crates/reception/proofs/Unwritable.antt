@@ -21,7 +21,7 @@ use Rattle.reader.specs.Reading.{exchange_order, tunnel_order, body_order, readi
 use Rattle.reader.proofs.Clear.{none_taken, taken, taken_legal}
 use Rattle.reply.specs.Steps.{acknowledging_order}
 use Rattle.reply.specs.Acknowledgement.{acknowledgement_of, acknowledging}
-use Rattle.reply.proofs.Steps.{judged-is}
+use Rattle.reply.proofs.Steps.{judged_is}
 use Rattle.reply.specs.Planning.{unwritable, lacks_room}
 use Rattle.admission.specs.Admission.{admission_order}
 use Rattle.reception.specs.Receiving.{Beside, sender_of, answer_to, delivery_order, after_reading, receiving_order}
@@ -52,10 +52,10 @@ reading_lacks bytes = go (message_of bytes).tunnelled
 module _ (own sender id : ℕ) (m : Message) (room : ℕ)
     (encrypt : bad_encrypt m.encrypt ≡ false) (key : bad_key m.encrypt m.key ≡ false) (ours : nobody own ≡ false) (theirs : nobody sender ≡ false)
   where
-    pub for-room-only : unwritable (acknowledging (acknowledgement_of own sender id m) room) ≡ false
+    pub for_room_only : unwritable (acknowledging (acknowledgement_of own sender id m) room) ≡ false
     unfolding acknowledging_order address_order acknowledgement_of
-    for-room-only =
-        ap unwritable (sym (judged-is own sender id m room refl refl))
+    for_room_only =
+        ap unwritable (sym (judged_is own sender id m room refl refl))
         ∙ ap (λ (r : Refusal). unwritable (writing r.number (total (acknowledgement_of own sender id m) [])))
         (first_miss (6 when bad_encrypt m.encrypt ∷ address_order (acknowledgement_of own sender id m)) (19 when ltb room (total (acknowledgement_of own sender id m) []) ∷ [])
         (encrypt, (kept (encrypted m) refl, (ours, ((or_false _ _ theirs).0, tt)))))
@@ -83,7 +83,7 @@ module _ (b : Beside) (bytes : List ℕ) (full : Bool) where
       let read = (taken bytes (message_of bytes) was).1.outer in
       let sender : nobody (sender_of b.link (message_of bytes)) ≡ false = sym (link_is_sender b.link (sender_of b.link (message_of bytes)) (message_of bytes) refl read.source) ∙ delivered.1.0 in
       go (message_of bytes).wants (unwritable (acknowledging (answer_to b (message_of bytes)) b.room)) ((message_of bytes).wants && lacks_room (acknowledging (answer_to b (message_of bytes)) b.room)) full
-      (for-room-only b.own (sender_of b.link (message_of bytes)) b.id (message_of bytes) b.room read.encrypt read.key own sender) e
+      (for_room_only b.own (sender_of b.link (message_of bytes)) b.id (message_of bytes) b.room read.encrypt read.key own sender) e
     where
       go : (wants un lack full : Bool) → un ≡ false → first (22 when (wants && un) ∷ 19 when lack ∷ 20 when full ∷ []) ≡ 22 → ⊥
       go true true lack full u e = clash true refl u
@@ -94,9 +94,9 @@ module _ (b : Beside) (bytes : List ℕ) (full : Bool) where
       go false un false true u e = omega arith
       go false un false false u e = omega arith
 
-  pub never-22 : first (receiving_order b bytes full) ≡ 22 → ⊥
+  pub never_22 : first (receiving_order b bytes full) ≡ 22 → ⊥
   unfolding receiving_order after_reading delivery_order read_of
-  never-22 e = by_own (nobody b.own) refl e
+  never_22 e = by_own (nobody b.own) refl e
     where
       by_delivery : nobody b.own ≡ false → read_of bytes ≡ as_taken (message_of bytes) → (k : ℕ) → first (delivery_order b.own b.link b.passed (message_of bytes)) ≡ k → first (after_reading b (message_of bytes) full) ≡ 22 → ⊥
       by_delivery own was zero f e =

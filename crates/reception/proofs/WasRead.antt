@@ -76,24 +76,24 @@ module _ (b : Beside) (bytes t : List ℕ) (m : Message) (h : Head) (n : ℕ) wh
     pub head : head_of (message_of bytes) ≡ h
     pub reply : only (message_of bytes).wants (total (answer_to b (message_of bytes)) []) ≡ n
 
-  pub new-said : receive_of b bytes t ≡ Received.New m h n → Said
+  pub new_said : receive_of b bytes t ≡ Received.New m h n → Said
   unfolding receive_of answer_of sender full reply
-  new-said e =
+  new_said e =
       let w = new_of (first_refusal (receiving_order b bytes full)) (verdict_in t sender (message_of bytes)) (message_of bytes) m (head_of (message_of bytes)) h reply n e in
       record { clear = w.0; value = w.1; head = w.2; reply = w.4 }
 
-  pub duplicate-said : receive_of b bytes t ≡ Received.Duplicate m h n → Said
+  pub duplicate_said : receive_of b bytes t ≡ Received.Duplicate m h n → Said
   unfolding receive_of answer_of sender full reply
-  duplicate-said e =
+  duplicate_said e =
       let w = duplicate_of (first_refusal (receiving_order b bytes full)) (verdict_in t sender (message_of bytes)) (message_of bytes) m (head_of (message_of bytes)) h reply n e in
       record { clear = w.0; value = w.1; head = w.2; reply = w.4 }
 
   -- a message that is new was read
-  pub new-was-read : receive_of b bytes t ≡ Received.New m h n → read_of bytes ≡ Taken m h
+  pub new_was_read : receive_of b bytes t ≡ Received.New m h n → read_of bytes ≡ Taken m h
   unfolding sender full
-  new-was-read e = let w = new-said e in read_by (w.clear, w.value, w.head)
+  new_was_read e = let w = new_said e in read_by (w.clear, w.value, w.head)
 
   -- and so was a duplicate
-  pub duplicate-was-read : receive_of b bytes t ≡ Received.Duplicate m h n → read_of bytes ≡ Taken m h
+  pub duplicate_was_read : receive_of b bytes t ≡ Received.Duplicate m h n → read_of bytes ≡ Taken m h
   unfolding sender full
-  duplicate-was-read e = let w = duplicate-said e in read_by (w.clear, w.value, w.head)
+  duplicate_was_read e = let w = duplicate_said e in read_by (w.clear, w.value, w.head)

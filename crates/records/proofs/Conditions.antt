@@ -26,11 +26,11 @@ pub record Some (n : ℕ) (p : ℕ → Bool) : Type 0 where
 
 module _ (n : ℕ) (p : ℕ → Bool) where
   -- there is one exactly when the truth value says so
-  pub some-says : some_below n p ≡ true → Some n p
-  some-says e = let l = ltb-true (first_below n p) n e in record { number = first_below n p; below = l; holds = least_holds n p l }
+  pub some_says : some_below n p ≡ true → Some n p
+  some_says e = let l = ltb-true (first_below n p) n e in record { number = first_below n p; below = l; holds = least_holds n p l }
 
-  pub some-when : Some n p → some_below n p ≡ true
-  some-when s = go (some_below n p) refl
+  pub some_when : Some n p → some_below n p ≡ true
+  some_when s = go (some_below n p) refl
     where
       go : (b : Bool) → some_below n p ≡ b → b ≡ true
       go true e = refl
@@ -39,8 +39,8 @@ module _ (n : ℕ) (p : ℕ → Bool) where
           clash (p s.number) s.holds (least_misses n p s.number l)
 
   -- and none (`none_below` in Placed)
-  pub none-when : ((k : ℕ) → k < n → p k ≡ false) → some_below n p ≡ false
-  none-when h = le-ltb (first_below n p) n (omega (arith, least_none n p h))
+  pub none_when : ((k : ℕ) → k < n → p k ≡ false) → some_below n p ≡ false
+  none_when h = le-ltb (first_below n p) n (omega (arith, least_none n p h))
 
 -- ---- the conditions
 
@@ -81,51 +81,51 @@ module _ (bytes : List ℕ) where
 
   -- ---- each exactly when its truth value says so
 
-  pub right-says : bad_length bytes ≡ false → RightLength
-  right-says e =
+  pub right_says : bad_length bytes ≡ false → RightLength
+  right_says e =
       let h = or_false (not (eqb (length bytes % 18) 0)) (ltb rows (record_count bytes)) e in
       (eqb-true _ _ (not-false _ h.0), ltb-false _ _ h.1)
 
-  pub right-when : RightLength → bad_length bytes ≡ false
-  right-when h = ap₂ (λ (a b : Bool). not a || b) (eq-eqb (length bytes % 18) 0 h.0) (le-ltb rows (record_count bytes) h.1)
+  pub right_when : RightLength → bad_length bytes ≡ false
+  right_when h = ap₂ (λ (a b : Bool). not a || b) (eq-eqb (length bytes % 18) 0 h.0) (le-ltb rows (record_count bytes) h.1)
 
-  pub wrong-says : bad_length bytes ≡ true → WrongLength
-  wrong-says e =
+  pub wrong_says : bad_length bytes ≡ true → WrongLength
+  wrong_says e =
       ⊎_elim (λ a. inl (eqb-false (length bytes % 18) 0 (not-true _ a))) (λ b. inr (ltb-true _ _ b))
       (or_true (not (eqb (length bytes % 18) 0)) (ltb rows (record_count bytes)) e)
 
-  pub wrong-when : WrongLength → bad_length bytes ≡ true
-  wrong-when h = go (bad_length bytes) refl
+  pub wrong_when : WrongLength → bad_length bytes ≡ true
+  wrong_when h = go (bad_length bytes) refl
     where
       go : (b : Bool) → bad_length bytes ≡ b → b ≡ true
       go true e = refl
-      go false e = let r = right-says e in let z : ⊥ = ⊎_elim (λ a. a r.0) (λ b. omega (arith, b, r.1)) h in absurd z
+      go false e = let r = right_says e in let z : ⊥ = ⊎_elim (λ a. a r.0) (λ b. omega (arith, b, r.1)) h in absurd z
 
-  pub twice-says : some_below (record_count bytes) (named_before bytes) ≡ true → NameTwice
+  pub twice_says : some_below (record_count bytes) (named_before bytes) ≡ true → NameTwice
   unfolding named_before
-  twice-says e =
-      let s = some-says (record_count bytes) (named_before bytes) e in
-      let r = some-says s.number (λ j. same_name (row_from bytes j) (row_from bytes s.number)) s.holds in
+  twice_says e =
+      let s = some_says (record_count bytes) (named_before bytes) e in
+      let r = some_says s.number (λ j. same_name (row_from bytes j) (row_from bytes s.number)) s.holds in
       record { earlier = r.number; later = s.number; before = r.below; below = s.below; same = r.holds }
 
-  pub twice-when : NameTwice → some_below (record_count bytes) (named_before bytes) ≡ true
+  pub twice_when : NameTwice → some_below (record_count bytes) (named_before bytes) ≡ true
   unfolding named_before
-  twice-when w =
-      some-when (record_count bytes) (named_before bytes)
+  twice_when w =
+      some_when (record_count bytes) (named_before bytes)
       (record {
         number = w.later;
         below = w.below;
-        holds = some-when w.later (λ j. same_name (row_from bytes j) (row_from bytes w.later)) (record { number = w.earlier; below = w.before; holds = w.same });
+        holds = some_when w.later (λ j. same_name (row_from bytes j) (row_from bytes w.later)) (record { number = w.earlier; below = w.before; holds = w.same });
       })
 
-  pub apart-when : NamesApart → some_below (record_count bytes) (named_before bytes) ≡ false
+  pub apart_when : NamesApart → some_below (record_count bytes) (named_before bytes) ≡ false
   unfolding named_before
-  apart-when h = none-when (record_count bytes) (named_before bytes) (λ i l. none-when i (λ j. same_name (row_from bytes j) (row_from bytes i)) (h i l))
+  apart_when h = none_when (record_count bytes) (named_before bytes) (λ i l. none_when i (λ j. same_name (row_from bytes j) (row_from bytes i)) (h i l))
 
   -- where none of them holds, the rows are placed
-  pub placed-when : RightLength → AllMarked → AllGood → NamesApart → restore_of bytes ≡ Placed (record_count bytes)
+  pub placed_when : RightLength → AllMarked → AllGood → NamesApart → restore_of bytes ≡ Placed (record_count bytes)
   unfolding restore_of restoring_order
-  placed-when r m g a =
+  placed_when r m g a =
       ap (λ (k : ℕ). restored k (record_count bytes))
       (first_none (restoring_order bytes)
-      (right-when r, (none-when (record_count bytes) (λ i. wrong_mark (record_at bytes i)) m, (none-when (record_count bytes) (λ i. bad_row (row_from bytes i)) g, (apart-when a, tt)))))
+      (right_when r, (none_when (record_count bytes) (λ i. wrong_mark (record_at bytes i)) m, (none_when (record_count bytes) (λ i. bad_row (row_from bytes i)) g, (apart_when a, tt)))))

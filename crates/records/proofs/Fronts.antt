@@ -37,11 +37,11 @@ module _ (row : Row) (fits : row.marks < 2 ^ 16) where
   bit : leb (2 ^ 15) row.marks ≡ bit_at row.marks 15
   bit = top_bit row.marks fits
 
-  pub bad-node : nobody row.node ≡ true → true ≡ bad_row row
-  bad-node e = sym (ap (λ (n : Bool). (n || (not (eqb row.key 0) && bad_key_type row.key)) || bit_at row.marks 15) e)
+  pub bad_node : nobody row.node ≡ true → true ≡ bad_row row
+  bad_node e = sym (ap (λ (n : Bool). (n || (not (eqb row.key 0) && bad_key_type row.key)) || bit_at row.marks 15) e)
 
-  pub bad-marks : 2 ^ 15 ≤ row.marks → true ≡ bad_row row
-  bad-marks l =
+  pub bad_marks : 2 ^ 15 ≤ row.marks → true ≡ bad_row row
+  bad_marks l =
       let e : bit_at row.marks 15 ≡ true = sym bit ∙ le-leb (2 ^ 15) row.marks l in
       sym (ap (λ (b : Bool). (nobody row.node || (not (eqb row.key 0) && bad_key_type row.key)) || b) e ∙ any (nobody row.node || (not (eqb row.key 0) && bad_key_type row.key)))
     where
@@ -59,8 +59,8 @@ module _ (row : Row) (fits : row.marks < 2 ^ 16) where
         ends true = refl
         ends false = refl
 
-    pub good-key : bad_key_type row.key ≡ false → false ≡ bad_row row
-    good-key h = sym (both (eqb row.key 0)) ∙ by_key false h
+    pub good_key : bad_key_type row.key ≡ false → false ≡ bad_row row
+    good_key h = sym (both (eqb row.key 0)) ∙ by_key false h
       where
         both : (z : Bool) → (not z && false) ≡ false
         both true = refl

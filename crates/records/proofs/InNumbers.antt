@@ -16,9 +16,9 @@ use Rattle.records.specs.Saving.{records_of, saved_bytes}
 use Rattle.records.specs.Restoring.{named_before, restoring_order, restore_of, restored_table}
 use Rattle.records.specs.Sound.{Sound}
 use Rattle.records.specs.declared.answers.Restored.TheVariants.{Placed, Refused}
-use Rattle.records.proofs.Placed.{restored-row}
+use Rattle.records.proofs.Placed.{restored_row}
 use Rattle.records.proofs.Records.{bytes_of_record}
-use Rattle.records.proofs.SaveRestore.{records-placed, records-restored}
+use Rattle.records.proofs.SaveRestore.{records_placed, records_restored}
 
 -- node 02..0E, key id 1001, highest id 5, marks 1 and 2; and bit 15, which is no mark
 abbrev stray : Row
@@ -92,9 +92,9 @@ record_is_restored =
       tt,
       tt,
     ) in (
-      records-placed (clean ∷ []) sound (omega arith),
-      records-restored (clean ∷ []) sound (omega arith),
-      restored-row saved (bytes_of_record clean) (omega arith) 0 (omega arith),
+      records_placed (clean ∷ []) sound (omega arith),
+      records_restored (clean ∷ []) sound (omega arith),
+      restored_row saved (bytes_of_record clean) (omega arith) 0 (omega arith),
     )
 
 -- The same name twice gives 26.

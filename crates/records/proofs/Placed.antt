@@ -81,39 +81,39 @@ node_in r all =
     omega (arith, byte_low all 2, byte_low all 3, byte_low all 4, byte_low all 5, byte_low all 6, byte_low all 7, byte_low all 8, byte_low all 9)
 
 module _ {bytes : List ℕ} (all : AllBytes bytes) where
-  pub narrow-from : (i : ℕ) → Narrow (row_from bytes i)
-  narrow-from i = narrow_in (record_at bytes i) (record_bytes_lem all i)
+  pub narrow_from : (i : ℕ) → Narrow (row_from bytes i)
+  narrow_from i = narrow_in (record_at bytes i) (record_bytes_lem all i)
 
-  pub node-from : (i : ℕ) → (row_from bytes i).node < 2 ^ 64
-  node-from i = node_in (record_at bytes i) (record_bytes_lem all i)
+  pub node_from : (i : ℕ) → (row_from bytes i).node < 2 ^ 64
+  node_from i = node_in (record_at bytes i) (record_bytes_lem all i)
 
 -- ---- the restored table
 
 module _ (bytes : List ℕ) where
-  pub restored-length : length (restored_table bytes) ≡ 96
+  pub restored_length : length (restored_table bytes) ≡ 96
   unfolding restored_table
-  restored-length = length_rows (record_count bytes) (row_from bytes) empty_table
+  restored_length = length_rows (record_count bytes) (row_from bytes) empty_table
 
   -- behind the rows of the records every word is zero, and every row free and zero
-  pub restored-zero : (k : ℕ) → 3 * record_count bytes ≤ k → get_or (restored_table bytes) k 0 ≡ 0
+  pub restored_zero : (k : ℕ) → 3 * record_count bytes ≤ k → get_or (restored_table bytes) k 0 ≡ 0
   unfolding restored_table
-  restored-zero k l = later_word (record_count bytes) (row_from bytes) empty_table k l ∙ zero_word 96 k
+  restored_zero k l = later_word (record_count bytes) (row_from bytes) empty_table k l ∙ zero_word 96 k
 
-  pub restored-free : (i : ℕ) → record_count bytes ≤ i → row_of (restored_table bytes) i ≡ freed
+  pub restored_free : (i : ℕ) → record_count bytes ≤ i → row_of (restored_table bytes) i ≡ freed
   unfolding restored_table
-  restored-free i l = later_row (record_count bytes) (row_from bytes) empty_table i l ∙ empty_row i
+  restored_free i l = later_row (record_count bytes) (row_from bytes) empty_table i l ∙ empty_row i
 
   module _ (all : AllBytes bytes) (most : record_count bytes ≤ rows) where
     -- each row of a record is at its number
-    pub restored-row : (i : ℕ) → i < record_count bytes → row_of (restored_table bytes) i ≡ row_from bytes i
+    pub restored_row : (i : ℕ) → i < record_count bytes → row_of (restored_table bytes) i ≡ row_from bytes i
     unfolding restored_table
-    restored-row = placed_row (record_count bytes) (row_from bytes) empty_table (omega arith) (narrow-from all)
+    restored_row = placed_row (record_count bytes) (row_from bytes) empty_table (omega arith) (narrow_from all)
 
     -- what does not hold of a free row holds of rows of records only
-    pub restored-kept : (p : Row → Bool) → p freed ≡ false → kept rows p (row_of (restored_table bytes)) ≡ kept (record_count bytes) p (row_from bytes)
-    restored-kept p free =
-        kept_front rows (record_count bytes) p (row_of (restored_table bytes)) most (λ k l h. ap p (restored-free k l) ∙ free)
-        ∙ kept_alike (record_count bytes) p (row_from bytes) (row_of (restored_table bytes)) restored-row
+    pub restored_kept : (p : Row → Bool) → p freed ≡ false → kept rows p (row_of (restored_table bytes)) ≡ kept (record_count bytes) p (row_from bytes)
+    restored_kept p free =
+        kept_front rows (record_count bytes) p (row_of (restored_table bytes)) most (λ k l h. ap p (restored_free k l) ∙ free)
+        ∙ kept_alike (record_count bytes) p (row_from bytes) (row_of (restored_table bytes)) restored_row
 
 -- ---- bytes that are taken
 

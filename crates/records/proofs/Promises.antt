@@ -6,15 +6,15 @@ pub use Rattle.records.proofs.SaveRestore.{save_after_restore, restore_after_sav
 -- again. Bit 15 of the marks is saved as zero.
 pub use Rattle.records.proofs.Records.{length_record, bytes_of_record, mark_of_record, marks_of_record, row_of_record, record_of_row}
 -- Only one outcome fits each public function.
-pub use Rattle.records.proofs.Outcomes.{one-row-in, one-wrong-mark, one-bad-row}
+pub use Rattle.records.proofs.Outcomes.{one_row_in, one_wrong_mark, one_bad_row}
 -- Saved bytes are 18 for each row in use, and the record at a number is that of the row in use at that number.
 pub use Rattle.records.proofs.Saved.{length_records, bytes_of_records, count_records, record_at_lem}
 -- A restored table has the row of each record at its number; all that is behind them is free and zero.
-pub use Rattle.records.proofs.Placed.{restored-length, restored-row, restored-free, restored-zero}
+pub use Rattle.records.proofs.Placed.{restored_length, restored_row, restored_free, restored_zero}
 -- A right mark, a good row and one name in plain terms.
 pub use Rattle.records.proofs.Plain.{right_mark_says, right_mark_when, GoodKey, good_row_says, good_row_when, same_name_says, same_name_when}
 -- The conditions in plain terms; and where none of them holds, the rows of all records are placed.
-pub use Rattle.records.proofs.Conditions.{Some, RightLength, WrongLength, AllMarked, SomeUnmarked, AllGood, SomeBad, NamesApart, NameTwice, placed-when}
+pub use Rattle.records.proofs.Conditions.{Some, RightLength, WrongLength, AllMarked, SomeUnmarked, AllGood, SomeBad, NamesApart, NameTwice, placed_when}
 use Prim.Native.Nat.{ℕ, zero, suc, ◌*◌, ◌≤◌, ◌<◌}
 use mathlib.Core.Path.{◌≡◌, refl, sym, ap, ap₂, ◌∙◌}
 use mathlib.Core.Bool.{Bool, true, false}
@@ -41,7 +41,7 @@ use Rattle.records.specs.Restoring.{record_count, record_at, row_from, bad_lengt
 use Rattle.records.specs.Sound.{Sound}
 use Rattle.records.specs.declared.answers.Restored.{Restored}
 use Rattle.records.specs.declared.answers.Restored.TheVariants.{Placed, Refused}
-use Rattle.records.proofs.Conditions.{some-says, some-when, none-when, right-says, right-when, wrong-says, wrong-when, twice-says, twice-when}
+use Rattle.records.proofs.Conditions.{some_says, some_when, none_when, right_says, right_when, wrong_says, wrong_when, twice_says, twice_when}
 use Rattle.records.proofs.Decided.{four, unmarked, bad, twice, decided, restored_number_lem, restored_at_no_byte, within, is_24, is_23, is_25, is_26}
 use Rattle.records.proofs.Placed.{none_below, is_taken}
 
@@ -55,11 +55,11 @@ module _ (t : List ℕ) where
     said b e = ap (λ (c : Bool). writing (first (19 when c ∷ [])) (length (saved_bytes t))) e
 
     -- Saving refuses exactly when the room is shorter than 18 bytes for each row in use, and then with 19.
-    pub saving-refused-when : room < 18 * length (rows_in_use t) → save_of t room ≡ Writing.Refused (refusal 19)
-    saving-refused-when l = said true (lt-ltb room (length (saved_bytes t)) (omega (arith, length_records (rows_in_use t))))
+    pub saving_refused_when : room < 18 * length (rows_in_use t) → save_of t room ≡ Writing.Refused (refusal 19)
+    saving_refused_when l = said true (lt-ltb room (length (saved_bytes t)) (omega (arith, length_records (rows_in_use t))))
 
-    pub saving-refused-says : (n : ℕ) → save_of t room ≡ Writing.Refused (refusal n) → (n ≡ 19) × (room < 18 * length (rows_in_use t))
-    saving-refused-says n e = go (ltb room (length (saved_bytes t))) refl
+    pub saving_refused_says : (n : ℕ) → save_of t room ≡ Writing.Refused (refusal n) → (n ≡ 19) × (room < 18 * length (rows_in_use t))
+    saving_refused_says n e = go (ltb room (length (saved_bytes t))) refl
       where
         go : (b : Bool) → ltb room (length (saved_bytes t)) ≡ b → (n ≡ 19) × (room < 18 * length (rows_in_use t))
         go true h =
@@ -68,16 +68,16 @@ module _ (t : List ℕ) where
         go false h = let z : ◌≡◌ {A = ℕ} 0 1 = cc (said false h, e) in let w : ⊥ = omega arith in absurd w
 
     -- A refusal of saving points at no byte.
-    pub saving-points-at-no-byte : (r : Refusal) → save_of t room ≡ Writing.Refused r → r.offset ≡ 0
+    pub saving_points_at_no_byte : (r : Refusal) → save_of t room ≡ Writing.Refused r → r.offset ≡ 0
     unfolding save_of
-    saving-points-at-no-byte r e = at_no_byte (first (saving_order t room)) (length (saved_bytes t)) r e
+    saving_points_at_no_byte r e = at_no_byte (first (saving_order t room)) (length (saved_bytes t)) r e
 
     -- Where there is room it writes as many bytes.
-    pub saving-written-when : 18 * length (rows_in_use t) ≤ room → save_of t room ≡ Writing.Written (18 * length (rows_in_use t))
-    saving-written-when l = said false (le-ltb room (length (saved_bytes t)) (omega (arith, length_records (rows_in_use t)))) ∙ ap Writing.Written (length_records (rows_in_use t))
+    pub saving_written_when : 18 * length (rows_in_use t) ≤ room → save_of t room ≡ Writing.Written (18 * length (rows_in_use t))
+    saving_written_when l = said false (le-ltb room (length (saved_bytes t)) (omega (arith, length_records (rows_in_use t)))) ∙ ap Writing.Written (length_records (rows_in_use t))
 
-    pub saving-written-says : (n : ℕ) → save_of t room ≡ Writing.Written n → (n ≡ 18 * length (rows_in_use t)) × (n ≤ room)
-    saving-written-says n e = go (ltb room (length (saved_bytes t))) refl
+    pub saving_written_says : (n : ℕ) → save_of t room ≡ Writing.Written n → (n ≡ 18 * length (rows_in_use t)) × (n ≤ room)
+    saving_written_says n e = go (ltb room (length (saved_bytes t))) refl
       where
         go : (b : Bool) → ltb room (length (saved_bytes t)) ≡ b → (n ≡ 18 * length (rows_in_use t)) × (n ≤ room)
         go true h = let z : ◌≡◌ {A = ℕ} 0 1 = cc (said true h, e) in let w : ⊥ = omega arith in absurd w
@@ -86,27 +86,27 @@ module _ (t : List ℕ) where
             (sym f ∙ length_records (rows_in_use t), omega (arith, ltb-false room (length (saved_bytes t)) h))
 
   -- A refused save leaves the buffer as it was, all of it.
-  pub refused-save-changes-nothing : (r : Refusal) (old : List ℕ) → save_of t (length old) ≡ Writing.Refused r → save_buffer t old ≡ old
+  pub refused_save_changes_nothing : (r : Refusal) (old : List ℕ) → save_of t (length old) ≡ Writing.Refused r → save_buffer t old ≡ old
   unfolding save_buffer
-  refused-save-changes-nothing r old e = ap (λ (w : Writing). buffer_after w (saved_bytes t) old) e
+  refused_save_changes_nothing r old e = ap (λ (w : Writing). buffer_after w (saved_bytes t) old) e
 
   -- A save changes the first bytes only, as many as it says: they are those of the table, and the others stay.
-  pub save-changes-the-front-only : (n : ℕ) (old : List ℕ) → save_of t (length old) ≡ Writing.Written n
+  pub save_changes_the_front_only : (n : ℕ) (old : List ℕ) → save_of t (length old) ≡ Writing.Written n
       → (take n (save_buffer t old) ≡ saved_bytes t) × (drop n (save_buffer t old) ≡ drop n old)
   unfolding save_buffer
-  save-changes-the-front-only n old e =
+  save_changes_the_front_only n old e =
       let b : save_buffer t old ≡ saved_bytes t ++ drop n old = ap (λ (w : Writing). buffer_after w (saved_bytes t) old) e in
-      let l : length (saved_bytes t) ≡ n = length_records (rows_in_use t) ∙ sym (saving-written-says (length old) n e).0 in
+      let l : length (saved_bytes t) ≡ n = length_records (rows_in_use t) ∙ sym (saving_written_says (length old) n e).0 in
       (ap (take n) b ∙ take_at (saved_bytes t) (drop n old) n l, ap (drop n) b ∙ drop_at (saved_bytes t) (drop n old) n l)
 
   -- The buffer keeps its length, refused or not.
-  pub save-keeps-the-length : (old : List ℕ) → length (save_buffer t old) ≡ length old
+  pub save_keeps_the_length : (old : List ℕ) → length (save_buffer t old) ≡ length old
   unfolding save_buffer
-  save-keeps-the-length old = go (save_of t (length old)) refl
+  save_keeps_the_length old = go (save_of t (length old)) refl
     where
       go : (w : Writing) → save_of t (length old) ≡ w → length (buffer_after w (saved_bytes t) old) ≡ length old
       go (Writing.Written n) e =
-          let s = saving-written-says (length old) n e in
+          let s = saving_written_says (length old) n e in
           omega (arith, length-append (saved_bytes t) (drop n old), length-drop n old, length_records (rows_in_use t), s.0, s.1)
       go (Writing.Refused r) e = refl
 
@@ -129,23 +129,23 @@ empty_changes_nothing old = ap₂ (λ (w : Writing) (l : List ℕ). buffer_after
 
 module _ (bytes : List ℕ) where
   -- A number is said only where its condition is the first to hold in the order.
-  pub restoring-refused-first : (n : ℕ) → restore_of bytes ≡ Refused (refusal n) → FirstToHold (refusal n) (restoring_order bytes)
+  pub restoring_refused_first : (n : ℕ) → restore_of bytes ≡ Refused (refusal n) → FirstToHold (refusal n) (restoring_order bytes)
   unfolding restore_of restoring_order
-  restoring-refused-first n e = number_first n (restoring_order bytes) refl (restored_number_lem (first (restoring_order bytes)) n (record_count bytes) e)
+  restoring_refused_first n e = number_first n (restoring_order bytes) refl (restored_number_lem (first (restoring_order bytes)) n (record_count bytes) e)
 
   -- And wherever it is.
-  pub restoring-first-refused : (n : ℕ) → 0 < n → FirstToHold (refusal n) (restoring_order bytes) → restore_of bytes ≡ Refused (refusal n)
+  pub restoring_first_refused : (n : ℕ) → 0 < n → FirstToHold (refusal n) (restoring_order bytes) → restore_of bytes ≡ Refused (refusal n)
   unfolding restore_of
-  restoring-first-refused n l w = ap (λ (k : ℕ). restored k (record_count bytes)) (first_number n (restoring_order bytes) w) ∙ go n l
+  restoring_first_refused n l w = ap (λ (k : ℕ). restored k (record_count bytes)) (first_number n (restoring_order bytes) w) ∙ go n l
     where
       go : (k : ℕ) → 0 < k → restored k (record_count bytes) ≡ Refused (refusal k)
       go zero h = let z : ⊥ = omega arith in absurd z
       go (suc k) h = refl
 
   -- A refusal of restoring points at no byte.
-  pub restoring-points-at-no-byte : (r : Refusal) → restore_of bytes ≡ Refused r → r.offset ≡ 0
+  pub restoring_points_at_no_byte : (r : Refusal) → restore_of bytes ≡ Refused r → r.offset ≡ 0
   unfolding restore_of
-  restoring-points-at-no-byte r e = restored_at_no_byte (first (restoring_order bytes)) (record_count bytes) r e
+  restoring_points_at_no_byte r e = restored_at_no_byte (first (restoring_order bytes)) (record_count bytes) r e
 
   -- the answer by the four conditions
   told : (n : ℕ) → restore_of bytes ≡ Refused (refusal n) → four (bad_length bytes) (unmarked bytes) (bad bytes) (twice bytes) ≡ n
@@ -157,69 +157,69 @@ module _ (bytes : List ℕ) where
   answered p q r s = ap (λ (k : ℕ). restored k (record_count bytes)) (decided bytes p q r s)
 
   -- 24 exactly when the bytes are not whole records, or the records are more than the rows.
-  pub wrong-length-says : restore_of bytes ≡ Refused (refusal 24) → WrongLength bytes
-  wrong-length-says e = wrong-says bytes (is_24 (bad_length bytes) (unmarked bytes) (bad bytes) (twice bytes) (told 24 e))
+  pub wrong_length_says : restore_of bytes ≡ Refused (refusal 24) → WrongLength bytes
+  wrong_length_says e = wrong_says bytes (is_24 (bad_length bytes) (unmarked bytes) (bad bytes) (twice bytes) (told 24 e))
 
-  pub wrong-length-when : WrongLength bytes → restore_of bytes ≡ Refused (refusal 24)
-  wrong-length-when h = answered (wrong-when bytes h) refl refl refl
+  pub wrong_length_when : WrongLength bytes → restore_of bytes ≡ Refused (refusal 24)
+  wrong_length_when h = answered (wrong_when bytes h) refl refl refl
 
   -- 23 exactly when the length is right, and some record has a wrong mark.
-  pub wrong-mark-says : restore_of bytes ≡ Refused (refusal 23) → RightLength bytes × SomeUnmarked bytes
-  wrong-mark-says e =
+  pub wrong_mark_says : restore_of bytes ≡ Refused (refusal 23) → RightLength bytes × SomeUnmarked bytes
+  wrong_mark_says e =
       let w = is_23 (bad_length bytes) (unmarked bytes) (bad bytes) (twice bytes) (told 23 e) in
-      (right-says bytes w.0, some-says (record_count bytes) (λ i. wrong_mark (record_at bytes i)) w.1)
+      (right_says bytes w.0, some_says (record_count bytes) (λ i. wrong_mark (record_at bytes i)) w.1)
 
-  pub wrong-mark-when : RightLength bytes → SomeUnmarked bytes → restore_of bytes ≡ Refused (refusal 23)
-  wrong-mark-when l s = answered (right-when bytes l) (some-when (record_count bytes) (λ i. wrong_mark (record_at bytes i)) s) refl refl
+  pub wrong_mark_when : RightLength bytes → SomeUnmarked bytes → restore_of bytes ≡ Refused (refusal 23)
+  wrong_mark_when l s = answered (right_when bytes l) (some_when (record_count bytes) (λ i. wrong_mark (record_at bytes i)) s) refl refl
 
   -- 25 exactly when length and marks are right, and some row is bad.
-  pub bad-row-says : restore_of bytes ≡ Refused (refusal 25) → RightLength bytes × AllMarked bytes × SomeBad bytes
-  bad-row-says e =
+  pub bad_row_says : restore_of bytes ≡ Refused (refusal 25) → RightLength bytes × AllMarked bytes × SomeBad bytes
+  bad_row_says e =
       let w = is_25 (bad_length bytes) (unmarked bytes) (bad bytes) (twice bytes) (told 25 e) in (
-        right-says bytes w.0,
+        right_says bytes w.0,
         none_below (record_count bytes) (λ i. wrong_mark (record_at bytes i)) w.1,
-        some-says (record_count bytes) (λ i. bad_row (row_from bytes i)) w.2,
+        some_says (record_count bytes) (λ i. bad_row (row_from bytes i)) w.2,
       )
 
-  pub bad-row-when : RightLength bytes → AllMarked bytes → SomeBad bytes → restore_of bytes ≡ Refused (refusal 25)
-  bad-row-when l m s =
-      answered (right-when bytes l) (none-when (record_count bytes) (λ i. wrong_mark (record_at bytes i)) m) (some-when (record_count bytes) (λ i. bad_row (row_from bytes i)) s) refl
+  pub bad_row_when : RightLength bytes → AllMarked bytes → SomeBad bytes → restore_of bytes ≡ Refused (refusal 25)
+  bad_row_when l m s =
+      answered (right_when bytes l) (none_when (record_count bytes) (λ i. wrong_mark (record_at bytes i)) m) (some_when (record_count bytes) (λ i. bad_row (row_from bytes i)) s) refl
 
   -- 26 exactly when length and marks are right and every row is good, and two rows have one name.
-  pub name-twice-says : restore_of bytes ≡ Refused (refusal 26) → RightLength bytes × AllMarked bytes × AllGood bytes × NameTwice bytes
-  name-twice-says e =
+  pub name_twice_says : restore_of bytes ≡ Refused (refusal 26) → RightLength bytes × AllMarked bytes × AllGood bytes × NameTwice bytes
+  name_twice_says e =
       let w = is_26 (bad_length bytes) (unmarked bytes) (bad bytes) (twice bytes) (told 26 e) in (
-        right-says bytes w.0,
+        right_says bytes w.0,
         none_below (record_count bytes) (λ i. wrong_mark (record_at bytes i)) w.1,
         none_below (record_count bytes) (λ i. bad_row (row_from bytes i)) w.2,
-        twice-says bytes w.3,
+        twice_says bytes w.3,
       )
 
-  pub name-twice-when : RightLength bytes → AllMarked bytes → AllGood bytes → NameTwice bytes → restore_of bytes ≡ Refused (refusal 26)
-  name-twice-when l m g t =
-      answered (right-when bytes l) (none-when (record_count bytes) (λ i. wrong_mark (record_at bytes i)) m) (none-when (record_count bytes) (λ i. bad_row (row_from bytes i)) g)
-      (twice-when bytes t)
+  pub name_twice_when : RightLength bytes → AllMarked bytes → AllGood bytes → NameTwice bytes → restore_of bytes ≡ Refused (refusal 26)
+  name_twice_when l m g t =
+      answered (right_when bytes l) (none_when (record_count bytes) (λ i. wrong_mark (record_at bytes i)) m) (none_when (record_count bytes) (λ i. bad_row (row_from bytes i)) g)
+      (twice_when bytes t)
 
   -- Restoring has no other refusal.
-  pub restoring-numbers : (n : ℕ) → restore_of bytes ≡ Refused (refusal n) → (23 ≤ n) × (n ≤ 26)
-  restoring-numbers n e = within (bad_length bytes) (unmarked bytes) (bad bytes) (twice bytes) n (restored_number_lem _ n (record_count bytes) (sym (answered refl refl refl refl) ∙ e))
+  pub restoring_numbers : (n : ℕ) → restore_of bytes ≡ Refused (refusal n) → (23 ≤ n) × (n ≤ 26)
+  restoring_numbers n e = within (bad_length bytes) (unmarked bytes) (bad bytes) (twice bytes) n (restored_number_lem _ n (record_count bytes) (sym (answered refl refl refl refl) ∙ e))
 
-  -- Taken exactly when none of them holds, and then as many rows as there are records (`placed-when`).
-  pub placed-says : (n : ℕ) → restore_of bytes ≡ Placed n → (n ≡ record_count bytes) × RightLength bytes × AllMarked bytes × AllGood bytes × NamesApart bytes
-  placed-says n e = let k = is_taken bytes n e in (k.count, (omega (arith, k.whole), k.most), k.mark, k.good, k.alone)
+  -- Taken exactly when none of them holds, and then as many rows as there are records (`placed_when`).
+  pub placed_says : (n : ℕ) → restore_of bytes ≡ Placed n → (n ≡ record_count bytes) × RightLength bytes × AllMarked bytes × AllGood bytes × NamesApart bytes
+  placed_says n e = let k = is_taken bytes n e in (k.count, (omega (arith, k.whole), k.most), k.mark, k.good, k.alone)
 
   -- A refused restore leaves the table as it was, every word of it.
-  pub refused-restore-changes-nothing : (r : Refusal) (t : List ℕ) → restore_of bytes ≡ Refused r → restore_table bytes t ≡ t
+  pub refused_restore_changes_nothing : (r : Refusal) (t : List ℕ) → restore_of bytes ≡ Refused r → restore_table bytes t ≡ t
   unfolding restore_table
-  refused-restore-changes-nothing r t e = ap (λ (a : Restored). table_after a (restored_table bytes) t) e
+  refused_restore_changes_nothing r t e = ap (λ (a : Restored). table_after a (restored_table bytes) t) e
 
   -- What it places, whatever the table was before, is the table that the bytes say.
-  pub restore-gives-the-table : (n : ℕ) (t : List ℕ) → restore_of bytes ≡ Placed n → restore_table bytes t ≡ restored_table bytes
+  pub restore_gives_the_table : (n : ℕ) (t : List ℕ) → restore_of bytes ≡ Placed n → restore_table bytes t ≡ restored_table bytes
   unfolding restore_table
-  restore-gives-the-table n t e = ap (λ (a : Restored). table_after a (restored_table bytes) t) e
+  restore_gives_the_table n t e = ap (λ (a : Restored). table_after a (restored_table bytes) t) e
 
-  pub restore-forgets-the-table : (n : ℕ) (t other : List ℕ) → restore_of bytes ≡ Placed n → restore_table bytes t ≡ restore_table bytes other
-  restore-forgets-the-table n t other e = restore-gives-the-table n t e ∙ sym (restore-gives-the-table n other e)
+  pub restore_forgets_the_table : (n : ℕ) (t other : List ℕ) → restore_of bytes ≡ Placed n → restore_table bytes t ≡ restore_table bytes other
+  restore_forgets_the_table n t other e = restore_gives_the_table n t e ∙ sym (restore_gives_the_table n other e)
 
 -- No bytes are legal, and empty the table.
 pub nothing_is_taken : restore_of [] ≡ Placed 0
@@ -228,7 +228,7 @@ nothing_is_taken = refl
 
 pub nothing_empties_the_table : (t : List ℕ) → (restored_table [] ≡ empty_table) × (restore_table [] t ≡ empty_table)
 unfolding restored_table with_rows
-nothing_empties_the_table t = (refl, restore-gives-the-table [] 0 t nothing_is_taken)
+nothing_empties_the_table t = (refl, restore_gives_the_table [] 0 t nothing_is_taken)
 
 -- ---- through a buffer and a table
 
@@ -238,7 +238,7 @@ pub restored_then_saved : (bytes t old : List ℕ) → AllBytes bytes → (n : �
 unfolding save_buffer
 restored_then_saved bytes t old all n e l =
     let now : List ℕ = restore_table bytes t in
-    let same : saved_bytes now ≡ bytes = ap saved_bytes (restore-gives-the-table bytes n t e) ∙ save_after_restore bytes all n e in
+    let same : saved_bytes now ≡ bytes = ap saved_bytes (restore_gives_the_table bytes n t e) ∙ save_after_restore bytes all n e in
     let answer : save_of now (length old) ≡ Writing.Written (length bytes) =
     said now (length old) false (le-ltb (length old) (length (saved_bytes now)) (rw same l)) ∙ ap (λ (b : List ℕ). Writing.Written (length b)) same in
     (answer, ap₂ (λ (w : Writing) (b : List ℕ). buffer_after w b old) answer same)
@@ -249,5 +249,5 @@ pub saved_then_restored : (t old other : List ℕ) (n : ℕ) → Sound (rows_in_
     (restore_of bytes ≡ Placed (length (rows_in_use t))) × (rows_in_use (restore_table bytes other) ≡ rows_in_use t)
 saved_then_restored t old other n s e =
     let back = restore_after_save t s in
-    rw (save-changes-the-front-only t n old e).0
-    (back.0, ap rows_in_use (restore-gives-the-table (saved_bytes t) (length (rows_in_use t)) other back.0) ∙ back.1)
+    rw (save_changes_the_front_only t n old e).0
+    (back.0, ap rows_in_use (restore_gives_the_table (saved_bytes t) (length (rows_in_use t)) other back.0) ∙ back.1)

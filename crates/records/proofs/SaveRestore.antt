@@ -14,8 +14,8 @@ use Rattle.records.specs.Saving.{records_of, saved_bytes}
 use Rattle.records.specs.Restoring.{record_count, record_at, row_from, restore_of, restored_table}
 use Rattle.records.specs.Sound.{SoundRow, NoneNamed, Sound}
 use Rattle.records.specs.declared.answers.Restored.TheVariants.{Placed}
-use Rattle.records.proofs.Conditions.{placed-when}
-use Rattle.records.proofs.Placed.{record_bytes_lem, restored-kept, is_taken}
+use Rattle.records.proofs.Conditions.{placed_when}
+use Rattle.records.proofs.Placed.{record_bytes_lem, restored_kept, is_taken}
 use Rattle.records.proofs.Records.{mark_of_record, row_of_record, record_of_row}
 use Rattle.records.proofs.Saved.{length_records, bytes_of_records, count_records, record_at_lem, length_record_at, records_in}
 
@@ -26,7 +26,7 @@ pub save_after_restore : (bytes : List ℕ) → AllBytes bytes → (n : ℕ) →
 unfolding row_in
 save_after_restore bytes all n e =
     let k = is_taken bytes n e in
-    ap records_of (restored-kept bytes all k.most in_use refl)
+    ap records_of (restored_kept bytes all k.most in_use refl)
     ∙ records_in (record_count bytes) in_use (row_from bytes) bytes k.whole (λ i l. refl)
     (λ i l. record_of_row (record_at bytes i) (record_bytes_lem all i) (length_record_at bytes i l) (k.mark i l) (k.good i l))
 
@@ -64,21 +64,21 @@ module _ (rs : List Row) (s : Sound rs) where
       ap row_in (record_at_lem rs i l) ∙ row_of_record (get_or rs i freed) h.used h.node h.key h.highest h.marks
 
   -- the records of sound rows are taken
-  pub records-placed : length rs ≤ rows → restore_of (records_of rs) ≡ Placed (length rs)
-  records-placed most =
+  pub records_placed : length rs ≤ rows → restore_of (records_of rs) ≡ Placed (length rs)
+  records_placed most =
       let b = records_of rs in
       let n : record_count b ≡ length rs = count_records rs in
-      placed-when b (omega (arith, length_records rs), omega arith)
+      placed_when b (omega (arith, length_records rs), omega arith)
       (λ i l. ap wrong_mark (record_at_lem rs i (omega arith)) ∙ mark_of_record (get_or rs i freed))
       (λ i l. ap bad_row (row_at i (omega arith)) ∙ (sound_at rs s i (omega arith)).good)
       (λ i l j m. ap₂ same_name (row_at j (omega arith)) (row_at i (omega arith)) ∙ apart_at rs s i (omega arith) j m)
       ∙ ap Placed n
 
   -- and are restored to those rows
-  pub records-restored : length rs ≤ rows → rows_in_use (restored_table (records_of rs)) ≡ rs
-  records-restored most =
+  pub records_restored : length rs ≤ rows → rows_in_use (restored_table (records_of rs)) ≡ rs
+  records_restored most =
       let n : record_count (records_of rs) ≡ length rs = count_records rs in
-      restored-kept (records_of rs) (bytes_of_records rs) (omega arith) in_use refl
+      restored_kept (records_of rs) (bytes_of_records rs) (omega arith) in_use refl
       ∙ ap (λ (k : ℕ). kept k in_use (row_from (records_of rs))) n
       ∙ kept_alike (length rs) in_use (λ i. get_or rs i freed) (row_from (records_of rs)) row_at
       ∙ kept_sound rs s
@@ -87,4 +87,4 @@ module _ (rs : List Row) (s : Sound rs) where
 pub restore_after_save : (t : List ℕ) → Sound (rows_in_use t) → (restore_of (saved_bytes t) ≡ Placed (length (rows_in_use t))) × (rows_in_use (restored_table (saved_bytes t)) ≡ rows_in_use t)
 restore_after_save t s =
     let most = kept_most rows in_use (row_of t) in
-    (records-placed (rows_in_use t) s most, records-restored (rows_in_use t) s most)
+    (records_placed (rows_in_use t) s most, records_restored (rows_in_use t) s most)

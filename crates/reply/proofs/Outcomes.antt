@@ -17,22 +17,22 @@ use Rattle.reply.specs.contracts.planning.with_reason as reason
 use Rattle.reply.specs.contracts.planning.plan as plan
 
 module _ {M : Type 1} {𝓤 : Ura M} (𝓛 : Logic 𝓤) (at_mem : Memory → SProp 𝓤) (run : Routine → Fun 𝓤) where
-  pub one-acknowledgement : (own sender id : ℕ) (m : Message) (r s : Message)
+  pub one_acknowledgement : (own sender id : ℕ) (m : Message) (r s : Message)
       → let allows : Message → SProp 𝓤 = λ v. (acknowledgement.clauses 𝓛 at_mem run tt (own, (sender, (id, (m, tt))))).ensures tt v (own, (sender, (id, (m, tt)))) in
       ent 𝓤 (conj 𝓤 (allows r) (allows s)) (fact 𝓤 (r ≡ s))
-  one-acknowledgement own sender id m r s = both 𝓤 _ _ _ (λ e f. e ∙ sym f)
+  one_acknowledgement own sender id m r s = both 𝓤 _ _ _ (λ e f. e ∙ sym f)
 
-  pub one-judged : (value : Message) (room : ℕ) (r s : Writing)
+  pub one_judged : (value : Message) (room : ℕ) (r s : Writing)
       → let allows : Writing → SProp 𝓤 = λ v. (judged.clauses 𝓛 at_mem run tt (value, (room, tt))).ensures tt v (value, (room, tt)) in
       ent 𝓤 (conj 𝓤 (allows r) (allows s)) (fact 𝓤 (r ≡ s))
-  one-judged value room r s = both 𝓤 _ _ _ (λ e f. e ∙ sym f)
+  one_judged value room r s = both 𝓤 _ _ _ (λ e f. e ∙ sym f)
 
-  pub one-with-reason : (answer : Writing) (r s : Writing)
+  pub one_with_reason : (answer : Writing) (r s : Writing)
       → let allows : Writing → SProp 𝓤 = λ v. (reason.clauses 𝓛 at_mem run tt (answer, tt)).ensures tt v (answer, tt) in
       ent 𝓤 (conj 𝓤 (allows r) (allows s)) (fact 𝓤 (r ≡ s))
-  one-with-reason answer r s = both 𝓤 _ _ _ (λ e f. e ∙ sym f)
+  one_with_reason answer r s = both 𝓤 _ _ _ (λ e f. e ∙ sym f)
 
-  pub one-plan : (own sender id : ℕ) (m : Message) (room : ℕ) (r s : Writing)
+  pub one_plan : (own sender id : ℕ) (m : Message) (room : ℕ) (r s : Writing)
       → let allows : Writing → SProp 𝓤 = λ v. (plan.clauses 𝓛 at_mem run tt (own, (sender, (id, (m, (room, tt)))))).ensures tt v (own, (sender, (id, (m, (room, tt))))) in
       ent 𝓤 (conj 𝓤 (allows r) (allows s)) (fact 𝓤 (r ≡ s))
-  one-plan own sender id m room r s = both 𝓤 _ _ _ (λ e f. e ∙ sym f)
+  one_plan own sender id m room r s = both 𝓤 _ _ _ (λ e f. e ∙ sym f)

@@ -13,11 +13,11 @@ use Rattle.reply.specs.Planning.{reasoned, planned_of}
 
 -- the reason is want of room, or another
 module _ (w : Writing) (r : Refusal) (e : w ≡ Refused r) where
-  pub for-room : r.number ≡ 19 → Refused (refusal 19) ≡ reasoned w
-  for-room h = sym (ap reasoned e ∙ ap (λ (b : Bool). Refused (refusal (cond b 19 22))) (eq-eqb r.number 19 h))
+  pub for_room : r.number ≡ 19 → Refused (refusal 19) ≡ reasoned w
+  for_room h = sym (ap reasoned e ∙ ap (λ (b : Bool). Refused (refusal (cond b 19 22))) (eq-eqb r.number 19 h))
 
-  pub for-another : (r.number ≡ 19 → ⊥) → Refused (refusal 22) ≡ reasoned w
-  for-another h = sym (ap reasoned e ∙ ap (λ (b : Bool). Refused (refusal (cond b 19 22))) (ne_eqb r.number 19 h))
+  pub for_another : (r.number ≡ 19 → ⊥) → Refused (refusal 22) ≡ reasoned w
+  for_another h = sym (ap reasoned e ∙ ap (λ (b : Bool). Refused (refusal (cond b 19 22))) (ne_eqb r.number 19 h))
 
 module _ (wanted : Bool) (value : Message) where
   -- the writer's answer w, with its reason

@@ -54,10 +54,10 @@ module _ (own sender id : ℕ) (m : Message) (room : ℕ) where
       none_stray short
 
   -- so writing answers by its own order
-  pub judged-is : {value : Message} {answer : Writing} → value ≡ acknowledgement_of own sender id m → answer ≡ writing (first (acknowledging_order value room)) (total value [])
+  pub judged_is : {value : Message} {answer : Writing} → value ≡ acknowledgement_of own sender id m → answer ≡ writing (first (acknowledging_order value room)) (total value [])
       → answer ≡ acknowledging (acknowledgement_of own sender id m) room
   unfolding acknowledging write_of
-  judged-is is by =
+  judged_is is by =
       by
       ∙ ap (λ (v : Message). writing (first (acknowledging_order v room)) (total v [])) is
       ∙ ap (λ (n : ℕ). writing n (total (acknowledgement_of own sender id m) [])) (sym order_is)

@@ -40,9 +40,9 @@ module _ (bytes t : List ℕ) (k : ℕ) (e : k ≡ first (restoring_order bytes)
   )
 
   -- and there is a row for each record
-  pub row-for-each : k ≡ 0 → record_count bytes ≤ rows
+  pub row_for_each : k ≡ 0 → record_count bytes ≤ rows
   unfolding restoring_order
-  row-for-each z = go (not (eqb (length bytes % 18) 0)) (ltb rows (record_count bytes)) refl (sym e ∙ z)
+  row_for_each z = go (not (eqb (length bytes % 18) 0)) (ltb rows (record_count bytes)) refl (sym e ∙ z)
     where
       go : (a b : Bool) → ltb rows (record_count bytes) ≡ b
           → first (24 when (a || b) ∷ 23 when some_below (record_count bytes) (λ i. wrong_mark (record_at bytes i)) ∷ 25 when some_below (record_count bytes) (λ i. bad_row (row_from bytes i)) ∷ 26 when some_below (record_count bytes) (named_before bytes) ∷ []) ≡ 0

@@ -18,8 +18,8 @@ use Rattle.restoring.specs.contracts.restore as restoring
 
 module _ {M : Type 1} {𝓤 : Ura M} (𝓛 : Logic 𝓤) (at_mem : Memory → SProp 𝓤) (run : Routine → Fun 𝓤) where
   -- it gives one answer, and leaves one table
-  pub one-restore : (κs : Lfts 2) (table bytes : Bor (List ℕ)) (r s : Restored) (x y : AtExit restoring.ended κs)
+  pub one_restore : (κs : Lfts 2) (table bytes : Bor (List ℕ)) (r s : Restored) (x y : AtExit restoring.ended κs)
       → let allows : Restored → AtExit restoring.ended κs → SProp 𝓤 = λ v e. (restoring.clauses 𝓛 at_mem run κs (table, (bytes, tt))).ensures tt v e in
       ent 𝓤 (conj 𝓤 (allows r x) (allows s y)) (fact 𝓤 ((r ≡ s) × (x.0.now ≡ y.0.now)))
-  one-restore κs table bytes r s x y =
+  one_restore κs table bytes r s x y =
       via 𝓤 _ (conj_mono 𝓤 (two 𝓤 _ _) (two 𝓤 _ _)) (both 𝓤 _ _ _ (λ e f. (e.0 ∙ sym f.0, e.1 ∙ sym f.1)))

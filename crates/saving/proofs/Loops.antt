@@ -36,12 +36,12 @@ module _ (t : List ℕ) (n : ℕ) (row : Row) (l : n < rows) (e : row ≡ row_at
       ∙ ap (λ (r : Row). kept n in_use (row_of t) ++ cond r.used (r ∷ []) []) (sym (e ∙ row_within t n l))
 
   -- it is in use
-  pub next-used : row.used ≡ true → kept (n + 1) in_use (row_of t) ≡ kept n in_use (row_of t) ++ (row ∷ [])
-  next-used u = next ∙ ap (λ (b : Bool). kept n in_use (row_of t) ++ cond b (row ∷ []) []) u
+  pub next_used : row.used ≡ true → kept (n + 1) in_use (row_of t) ≡ kept n in_use (row_of t) ++ (row ∷ [])
+  next_used u = next ∙ ap (λ (b : Bool). kept n in_use (row_of t) ++ cond b (row ∷ []) []) u
 
   -- it is free
-  pub next-free : row.used ≡ false → kept (n + 1) in_use (row_of t) ≡ kept n in_use (row_of t)
-  next-free u = next ∙ ap (λ (b : Bool). kept n in_use (row_of t) ++ cond b (row ∷ []) []) u ∙ append-nil (kept n in_use (row_of t))
+  pub next_free : row.used ≡ false → kept (n + 1) in_use (row_of t) ≡ kept n in_use (row_of t)
+  next_free u = next ∙ ap (λ (b : Bool). kept n in_use (row_of t) ++ cond b (row ∷ []) []) u ∙ append-nil (kept n in_use (row_of t))
 
 -- ---- counting
 
@@ -49,14 +49,14 @@ abbrev pub Counted : List ℕ → ℕ → ℕ → Type 0
 Counted t n count = (n ≤ rows) × (count ≡ length (kept n in_use (row_of t)))
 
 module _ (t : List ℕ) (n count : ℕ) (row : Row) (l : n < rows) (e : row ≡ row_at t n) (c : Counted t n count) where
-  pub count-used : row.used ≡ true → Counted t (n + 1) (count + 1)
-  count-used u =
-      let a = ap length (next-used t n row l e u) in
+  pub count_used : row.used ≡ true → Counted t (n + 1) (count + 1)
+  count_used u =
+      let a = ap length (next_used t n row l e u) in
       let b = length-append (kept n in_use (row_of t)) (row ∷ []) in
       (omega (arith, l), omega (arith, a, b, c.1))
 
-  pub count-free : row.used ≡ false → Counted t (n + 1) count
-  count-free u = (omega (arith, l), c.1 ∙ sym (ap length (next-free t n row l e u)))
+  pub count_free : row.used ≡ false → Counted t (n + 1) count
+  count_free u = (omega (arith, l), c.1 ∙ sym (ap length (next_free t n row l e u)))
 
 pub counted_most : (t : List ℕ) (n count : ℕ) → Counted t n count → count ≤ 32
 counted_most t n count c = omega (arith, c.0, c.1, kept_most n in_use (row_of t))
@@ -89,7 +89,7 @@ module _ (t old b : List ℕ) (n at : ℕ) (row : Row) (l : n < rows) (e : row �
   -- a row in use has room for its record
   pub room_for : row.used ≡ true → at + 18 ≤ length old
   room_for u =
-      let a = ap length (next-used t n row l e u) in
+      let a = ap length (next_used t n row l e u) in
       let c = length-append (kept n in_use (row_of t)) (row ∷ []) in
       let m = fewer in_use (row_of t) (n + 1) (32 - (n + 1)) in
       let s : n + 1 + (32 - (n + 1)) ≡ 32 = omega (arith, l) in
@@ -97,18 +97,18 @@ module _ (t old b : List ℕ) (n at : ℕ) (row : Row) (l : n < rows) (e : row �
       omega (arith, a, c, k, w.1.place, length_records (kept n in_use (row_of t)), length_records (rows_in_use t), fits)
 
   -- it is put behind those before
-  pub write-used : (last : List ℕ) → row.used ≡ true → last ≡ placed (record_of row) (take (at + 18 - at) (drop at b))
+  pub write_used : (last : List ℕ) → row.used ≡ true → last ≡ placed (record_of row) (take (at + 18 - at) (drop at b))
       → Written t old (take at b ++ (last ++ drop (at + 18 - at) (drop at b))) (n + 1) (at + 18)
-  write-used last u p =
+  write_used last u p =
       let k : length b ≡ length old = ap length w.1.buffer ∙ length-sets old 0 (records_of (kept n in_use (row_of t))) in
       let put = place_put b (record_of row) last at 18 (length_record row) (omega (arith, k, room_for u)) p in
       let more : records_of (kept (n + 1) in_use (row_of t)) ≡ records_of (kept n in_use (row_of t)) ++ record_of row =
-      ap records_of (next-used t n row l e u) ∙ records_append (kept n in_use (row_of t)) (row ∷ []) ∙ ap (λ (r : List ℕ). records_of (kept n in_use (row_of t)) ++ r) (one row) in
+      ap records_of (next_used t n row l e u) ∙ records_append (kept n in_use (row_of t)) (row ∷ []) ∙ ap (λ (r : List ℕ). records_of (kept n in_use (row_of t)) ++ r) (one row) in
       (omega (arith, l), subst⁻¹ (Wrote old 0 (take at b ++ (last ++ drop (at + 18 - at) (drop at b))) (at + 18)) more (onward (record_of row) 18 (length_record row) w.1 (refl, put)))
 
   -- a free row is passed over
-  pub write-free : row.used ≡ false → Written t old b (n + 1) at
-  write-free u = (omega (arith, l), subst⁻¹ (λ (rs : List Row). Wrote old 0 b at (records_of rs)) (next-free t n row l e u) w.1)
+  pub write_free : row.used ≡ false → Written t old b (n + 1) at
+  write_free u = (omega (arith, l), subst⁻¹ (λ (rs : List Row). Wrote old 0 b at (records_of rs)) (next_free t n row l e u) w.1)
 
 -- the same, by other names
 pub written_as : (t old b : List ℕ) (n at : ℕ) (c : List ℕ) (to : ℕ) → c ≡ b → to ≡ at → Written t old b n at → Written t old c n to
@@ -132,17 +132,17 @@ written_small t old b n at w = omega (arith, w.0, w.1.place, length_records (kep
 
 module _ (t : List ℕ) (room : ℕ) where
   -- for all rows there is room, so for those in use
-  pub room-for-all : 576 ≤ room → false ≡ ltb room (length (saved_bytes t))
-  room-for-all l = sym (le-ltb room (length (saved_bytes t)) (omega (arith, l, length_records (rows_in_use t), kept_most 32 in_use (row_of t))))
+  pub room_for_all : 576 ≤ room → false ≡ ltb room (length (saved_bytes t))
+  room_for_all l = sym (le-ltb room (length (saved_bytes t)) (omega (arith, l, length_records (rows_in_use t), kept_most 32 in_use (row_of t))))
 
   -- so many rows take so many bytes
-  pub room-by-count : (count : ℕ) → count ≡ length (rows_in_use t) → ltb room (18 * count) ≡ ltb room (length (saved_bytes t))
-  room-by-count count e = let s : 18 * count ≡ length (saved_bytes t) = omega (arith, e, length_records (rows_in_use t)) in ap (ltb room) s
+  pub room_by_count : (count : ℕ) → count ≡ length (rows_in_use t) → ltb room (18 * count) ≡ ltb room (length (saved_bytes t))
+  room_by_count count e = let s : 18 * count ≡ length (saved_bytes t) = omega (arith, e, length_records (rows_in_use t)) in ap (ltb room) s
 
 module _ (t old : List ℕ) (lacks : Bool) (e : lacks ≡ ltb (length old) (length (saved_bytes t))) where
-  pub saves-not : lacks ≡ true → (Refused (refusal 19) ≡ save_of t (length old)) × (old ≡ save_buffer t old)
+  pub saves_not : lacks ≡ true → (Refused (refusal 19) ≡ save_of t (length old)) × (old ≡ save_buffer t old)
   unfolding save_of save_buffer saving_order
-  saves-not h = (
+  saves_not h = (
     sym (ap (λ (b : Bool). writing (first (19 when b ∷ [])) (length (saved_bytes t))) (sym e ∙ h)),
     sym (ap (λ (b : Bool). buffer_after (writing (first (19 when b ∷ [])) (length (saved_bytes t))) (saved_bytes t) old) (sym e ∙ h)),
   )

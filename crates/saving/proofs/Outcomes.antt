@@ -18,8 +18,8 @@ use Rattle.saving.specs.contracts.save as saving
 
 module _ {M : Type 1} {𝓤 : Ura M} (𝓛 : Logic 𝓤) (at_mem : Memory → SProp 𝓤) (run : Routine → Fun 𝓤) where
   -- it gives one answer, and leaves one buffer
-  pub one-save : (κs : Lfts 2) (table out : Bor (List ℕ)) (r s : Writing) (x y : AtExit saving.ended κs)
+  pub one_save : (κs : Lfts 2) (table out : Bor (List ℕ)) (r s : Writing) (x y : AtExit saving.ended κs)
       → let allows : Writing → AtExit saving.ended κs → SProp 𝓤 = λ v e. (saving.clauses 𝓛 at_mem run κs (table, (out, tt))).ensures tt v e in
       ent 𝓤 (conj 𝓤 (allows r x) (allows s y)) (fact 𝓤 ((r ≡ s) × (x.1.0.now ≡ y.1.0.now)))
-  one-save κs table out r s x y =
+  one_save κs table out r s x y =
       via 𝓤 _ (conj_mono 𝓤 (two 𝓤 _ _) (two 𝓤 _ _)) (both 𝓤 _ _ _ (λ e f. (e.0 ∙ sym f.0, e.1 ∙ sym f.1)))

@@ -14,45 +14,45 @@ use Rattle.table.proofs.Words.{named_row}
 
 module _ (t : List ℕ) (node key : ℕ) where
   -- the row at the number found has the name
-  pub found-is-named : (i : ℕ) → i ≡ find_of rows t node key → i < rows → named node key (row_of t i) ≡ true
+  pub found_is_named : (i : ℕ) → i ≡ find_of rows t node key → i < rows → named node key (row_of t i) ≡ true
   unfolding find_of
-  found-is-named i e l =
+  found_is_named i e l =
       ap (λ (k : ℕ). named node key (row_of t k)) e ∙ least_holds rows (λ k. named node key (row_of t k)) (subst (λ (k : ℕ). k < rows) e l)
 
   -- The row found is in use under the name.
-  pub found-is-in-use-under-the-name : find_of rows t node key < rows
+  pub found_is_in_use_under_the_name : find_of rows t node key < rows
       → let row : Row = row_of t (find_of rows t node key) in (row.used ≡ true) × (row.node ≡ node) × (row.key ≡ key)
-  found-is-in-use-under-the-name l =
-      let e = named_row (row_of t (find_of rows t node key)) node key (found-is-named (find_of rows t node key) (λ i. find_of rows t node key) l) in
+  found_is_in_use_under_the_name l =
+      let e = named_row (row_of t (find_of rows t node key)) node key (found_is_named (find_of rows t node key) (λ i. find_of rows t node key) l) in
       (sym (ap (λ (r : Row). r.used) e), sym (ap (λ (r : Row). r.node) e), sym (ap (λ (r : Row). r.key) e))
 
   -- No row before it is: of two rows with one name the first counts.
-  pub none-before-the-found : (k : ℕ) → k < find_of rows t node key → named node key (row_of t k) ≡ false
+  pub none_before_the_found : (k : ℕ) → k < find_of rows t node key → named node key (row_of t k) ≡ false
   unfolding find_of
-  none-before-the-found = least_misses rows (λ k. named node key (row_of t k))
+  none_before_the_found = least_misses rows (λ k. named node key (row_of t k))
 
   -- Where none is found no row is in use under the name.
-  pub none-found-none-there : rows ≤ find_of rows t node key → (k : ℕ) → k < rows → named node key (row_of t k) ≡ false
-  none-found-none-there l k h = none-before-the-found k (omega arith)
+  pub none_found_none_there : rows ≤ find_of rows t node key → (k : ℕ) → k < rows → named node key (row_of t k) ≡ false
+  none_found_none_there l k h = none_before_the_found k (omega arith)
 
   -- And where no row is, none is found.
-  pub none-there-none-found : ((k : ℕ) → k < rows → named node key (row_of t k) ≡ false) → find_of rows t node key ≡ rows
+  pub none_there_none_found : ((k : ℕ) → k < rows → named node key (row_of t k) ≡ false) → find_of rows t node key ≡ rows
   unfolding find_of
-  none-there-none-found = least_none rows (λ k. named node key (row_of t k))
+  none_there_none_found = least_none rows (λ k. named node key (row_of t k))
 
 -- ---- a free row
 
 module _ (t : List ℕ) where
   -- The free row found is free.
-  pub free-found-is-free : free_of rows t < rows → (row_of t (free_of rows t)).used ≡ false
+  pub free_found_is_free : free_of rows t < rows → (row_of t (free_of rows t)).used ≡ false
   unfolding free_of
-  free-found-is-free l = not-true _ (least_holds rows (λ k. is_free (row_of t k)) l)
+  free_found_is_free l = not-true _ (least_holds rows (λ k. is_free (row_of t k)) l)
 
   -- It is the lowest: every row before it is in use.
-  pub free-found-is-the-lowest : (k : ℕ) → k < free_of rows t → (row_of t k).used ≡ true
+  pub free_found_is_the_lowest : (k : ℕ) → k < free_of rows t → (row_of t k).used ≡ true
   unfolding free_of
-  free-found-is-the-lowest k l = not-false _ (least_misses rows (λ i. is_free (row_of t i)) k l)
+  free_found_is_the_lowest k l = not-false _ (least_misses rows (λ i. is_free (row_of t i)) k l)
 
   -- Where none is found all rows are in use.
-  pub none-free-all-in-use : rows ≤ free_of rows t → (k : ℕ) → k < rows → (row_of t k).used ≡ true
-  none-free-all-in-use l k h = free-found-is-the-lowest k (omega arith)
+  pub none_free_all_in_use : rows ≤ free_of rows t → (k : ℕ) → k < rows → (row_of t k).used ≡ true
+  none_free_all_in_use l k h = free_found_is_the_lowest k (omega arith)

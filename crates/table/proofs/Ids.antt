@@ -14,7 +14,7 @@ use Rattle.window.specs.declared.Rolled.{Rolled}
 use Rattle.window.proofs.Rows.{stays_in_use}
 use Rattle.table.specs.Table.{rows, one_if, row_of, with_row, row_at, put_at, named, row_under, with_ids, find_of}
 use Rattle.table.proofs.Words.{named_row, row_within, put_within}
-use Rattle.table.proofs.Found.{found-is-named}
+use Rattle.table.proofs.Found.{found_is_named}
 
 -- key id and in-use bit are as they were, and the other bits of their word are clear
 kept_name : (w h : ℕ) → w / 2 ^ 32 % 2 ^ 17 * 2 ^ 32 + h ≡ one_if (eqb (w / 2 ^ 48 % 2) 1) * 2 ^ 48 + (w / 2 ^ 32 % 2 ^ 16 * 2 ^ 32 + h)
@@ -52,7 +52,7 @@ pub rolled_ids_put : (t : List ℕ) (i node key id : ℕ) (row : Row) (rolled : 
     → put_at t i (with_ids (row_at t i) rolled.row.highest rolled.row.marks) ≡ put_at t i rolled.row
 rolled_ids_put t i node key id row rolled e l r q =
     let s = stays_in_use row id (ap (λ (x : Row). x.used) r) in
-    ids_put_row t i node key rolled.row l (found-is-named t node key i e l)
+    ids_put_row t i node key rolled.row l (found_is_named t node key i e l)
     (ap (λ (x : Rolled). x.row.used) q ∙ s.0)
     (ap (λ (x : Rolled). x.row.node) q ∙ s.1 ∙ ap (λ (x : Row). x.node) r)
     (ap (λ (x : Rolled). x.row.key) q ∙ s.2 ∙ ap (λ (x : Row). x.key) r)

@@ -53,22 +53,22 @@ abbrev pub Tried : ℕ → (ℕ → Bool) → ℕ → Type 0
 Tried n p i = (i ≤ n) × ((k : ℕ) → k < i → p k ≡ false)
 
 module _ (n : ℕ) (p : ℕ → Bool) where
-  pub tried-none : Tried n p 0
-  tried-none = (omega arith, λ k l. let z : ⊥ = omega arith in absurd z)
+  pub tried_none : Tried n p 0
+  tried_none = (omega arith, λ k l. let z : ⊥ = omega arith in absurd z)
 
   -- all are tried
-  pub tried-all : (i : ℕ) → Tried n p i → n ≤ i → n ≡ first_below n p
-  tried-all i h l = sym (least_none n p (λ k g. h.1 k (omega arith)))
+  pub tried_all : (i : ℕ) → Tried n p i → n ≤ i → n ≡ first_below n p
+  tried_all i h l = sym (least_none n p (λ k g. h.1 k (omega arith)))
 
   module _ (i : ℕ) (b : Bool) (h : Tried n p i) (l : i < n) (e : b ≡ p i) where
     -- not here
-    pub tried-one : b ≡ false → Tried n p (i + 1)
-    tried-one f = (omega arith, λ k g. go k g (dec_lt k i))
+    pub tried_one : b ≡ false → Tried n p (i + 1)
+    tried_one f = (omega arith, λ k g. go k g (dec_lt k i))
       where
         go : (k : ℕ) → k < i + 1 → Dec (k < i) → p k ≡ false
         go k g (yes q) = h.1 k q
         go k g (no q) = let s : k ≡ i = omega arith in ap p s ∙ sym e ∙ f
 
     -- here
-    pub tried-till : b ≡ true → i ≡ first_below n p
-    tried-till t = sym (least_is n p i l h.1 (sym e ∙ t))
+    pub tried_till : b ≡ true → i ≡ first_below n p
+    tried_till t = sym (least_is n p i l h.1 (sym e ∙ t))

@@ -22,25 +22,25 @@ use Rattle.table.specs.contracts.rows.use_bit as bit
 
 module _ {M : Type 1} {𝓤 : Ura M} (𝓛 : Logic 𝓤) (at_mem : Memory → SProp 𝓤) (run : Routine → Fun 𝓤) where
   -- `put_words` leaves three words
-  pub one-put-words : (κs : Lfts 1) (three : Bor (List ℕ)) (row : Row) (r s : Unit {0}) (x y : AtExit storing.ended κs)
+  pub one_put_words : (κs : Lfts 1) (three : Bor (List ℕ)) (row : Row) (r s : Unit {0}) (x y : AtExit storing.ended κs)
       → let allows : Unit {0} → AtExit storing.ended κs → SProp 𝓤 = λ v e. (storing.clauses 𝓛 at_mem run κs (three, (row, tt))).ensures tt v e in
       ent 𝓤 (conj 𝓤 (allows r x) (allows s y)) (fact 𝓤 (x.0.now ≡ y.0.now))
-  one-put-words κs three row r s x y = both 𝓤 _ _ _ (λ e f. e ∙ sym f)
+  one_put_words κs three row r s x y = both 𝓤 _ _ _ (λ e f. e ∙ sym f)
 
   -- `row_from` gives one row
-  pub one-row-from : (κs : Lfts 0) (node second third : ℕ) (r s : Row) (x y : AtExit words.ended κs)
+  pub one_row_from : (κs : Lfts 0) (node second third : ℕ) (r s : Row) (x y : AtExit words.ended κs)
       → let allows : Row → AtExit words.ended κs → SProp 𝓤 = λ v e. (words.clauses 𝓛 at_mem run κs (node, (second, (third, tt)))).ensures tt v e in
       ent 𝓤 (conj 𝓤 (allows r x) (allows s y)) (fact 𝓤 (r ≡ s))
-  one-row-from κs node second third r s x y = both 𝓤 _ _ _ (λ e f. e ∙ sym f)
+  one_row_from κs node second third r s x y = both 𝓤 _ _ _ (λ e f. e ∙ sym f)
 
   -- `state_of` gives one word
-  pub one-state-of : (κs : Lfts 0) (row : Row) (r s : ℕ) (x y : AtExit state.ended κs)
+  pub one_state_of : (κs : Lfts 0) (row : Row) (r s : ℕ) (x y : AtExit state.ended κs)
       → let allows : ℕ → AtExit state.ended κs → SProp 𝓤 = λ v e. (state.clauses 𝓛 at_mem run κs (row, tt)).ensures tt v e in
       ent 𝓤 (conj 𝓤 (allows r x) (allows s y)) (fact 𝓤 (r ≡ s))
-  one-state-of κs row r s x y = both 𝓤 _ _ _ (λ e f. e ∙ sym f)
+  one_state_of κs row r s x y = both 𝓤 _ _ _ (λ e f. e ∙ sym f)
 
   -- `use_bit` gives one bit
-  pub one-use-bit : (κs : Lfts 0) (used : Bool) (r s : ℕ) (x y : AtExit bit.ended κs)
+  pub one_use_bit : (κs : Lfts 0) (used : Bool) (r s : ℕ) (x y : AtExit bit.ended κs)
       → let allows : ℕ → AtExit bit.ended κs → SProp 𝓤 = λ v e. (bit.clauses 𝓛 at_mem run κs (used, tt)).ensures tt v e in
       ent 𝓤 (conj 𝓤 (allows r x) (allows s y)) (fact 𝓤 (r ≡ s))
-  one-use-bit κs used r s x y = both 𝓤 _ _ _ (λ e f. e.0 ∙ sym f.0)
+  one_use_bit κs used r s x y = both 𝓤 _ _ _ (λ e f. e.0 ∙ sym f.0)

@@ -5,4 +5,4 @@ pub use Rattle.table.proofs.Words.{same_row, other_row, other_word, length_put}
 -- Putting ids alone into the row of a name, as rolling it gives them, comes to the row put whole.
 pub use Rattle.table.proofs.Ids.{rolled_ids_put}
 -- Only one outcome fits each public function.
-pub use Rattle.table_rows.proofs.Outcomes.{one-row-at, one-row-under, one-put-row, one-put-ids}
+pub use Rattle.table_rows.proofs.Outcomes.{one_row_at, one_row_under, one_put_row, one_put_ids}

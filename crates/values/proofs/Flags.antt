@@ -30,9 +30,9 @@ low false false true = refl
 low false false false = refl
 
 module _ (m : Message) where
-  pub flags-back : Exchange (flags_of m) m.initiator m.acknowledges m.wants
-  flags-back = back m.initiator m.acknowledges m.wants
+  pub flags_back : Exchange (flags_of m) m.initiator m.acknowledges m.wants
+  flags_back = back m.initiator m.acknowledges m.wants
 
   -- and no other bit is set
-  pub flags-low : ltb (flags_of m) 8 ≡ true
-  flags-low = low m.initiator m.acknowledges m.wants
+  pub flags_low : ltb (flags_of m) 8 ≡ true
+  flags_low = low m.initiator m.acknowledges m.wants

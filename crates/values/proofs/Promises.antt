@@ -18,7 +18,7 @@ use Rattle.format.proofs.Sized.{Sized, read_is_sized}
 use Rattle.places.specs.Fields.{fields_with, fields_of}
 use Rattle.values.specs.Values.{fits, value_from}
 use Rattle.values.proofs.Fitted.{true_and}
-use Rattle.values.proofs.Flags.{flags-back, flags-low}
+use Rattle.values.proofs.Flags.{flags_back, flags_low}
 
 -- a value whose fields are within their types, of a version and an encrypt type that can be written
 pub record Typed (m : Message) : Type 0 where
@@ -28,11 +28,11 @@ pub record Typed (m : Message) : Type 0 where
 
 module _ (m : Message) (typed : Typed m) (len verdict reply : ℕ) where
   -- the places of a value say that value
-  pub value-back : value_from (fields_of m (head_of m) len verdict reply) ≡ m
+  pub value_back : value_from (fields_of m (head_of m) len verdict reply) ≡ m
   unfolding fields_with value_from
-  value-back =
+  value_back =
       let h = header_forth m typed.version typed.encrypt in
-      let f = flags-back m in
+      let f = flags_back m in
       λ i. record {
         version = h.version i;
         tunnelled = h.tunnelled i;
@@ -53,12 +53,12 @@ module _ (m : Message) (typed : Typed m) (len verdict reply : ℕ) where
       }
 
   -- and none of them is refused
-  pub value-fits : fits (fields_of m (head_of m) len verdict reply) ≡ true
+  pub value_fits : fits (fields_of m (head_of m) len verdict reply) ≡ true
   unfolding fields_with fits
-  value-fits =
+  value_fits =
       let h = header_forth m typed.version typed.encrypt in
       let s = typed.sized in
-      true_and _ _ (true_and _ _ (true_and _ _ (true_and _ _ (true_and _ _ (true_and _ _ (true_and _ _ (true_and _ _ (lt-ltb _ _ h.low) (ap not h.clean)) (flags-low m)) (lt-ltb _ _ s.id)) (lt-ltb _ _ s.key)) (lt-ltb _ _ s.kind)) (lt-ltb _ _ s.exchange)) (lt-ltb _ _ s.profile)) (lt-ltb _ _ s.acknowledged)
+      true_and _ _ (true_and _ _ (true_and _ _ (true_and _ _ (true_and _ _ (true_and _ _ (true_and _ _ (true_and _ _ (lt-ltb _ _ h.low) (ap not h.clean)) (flags_low m)) (lt-ltb _ _ s.id)) (lt-ltb _ _ s.key)) (lt-ltb _ _ s.kind)) (lt-ltb _ _ s.exchange)) (lt-ltb _ _ s.profile)) (lt-ltb _ _ s.acknowledged)
 
 -- Every value that reading takes is such a one.
 pub read_is_typed : (bytes : List ℕ) → AllBytes bytes → (m : Message) → read_of bytes ≡ as_taken m → Typed m

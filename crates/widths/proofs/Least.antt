@@ -9,7 +9,7 @@ use Rattle.window.specs.Rows.{behind_encrypted}
 use Rattle.window.specs.declared.Verdict.{Verdict}
 use Rattle.window.specs.declared.Verdict.TheVariants.{New, Duplicate}
 use Rattle.widths.specs.Trial.{verdicts_with, farthest_new, same_verdict, same_verdicts, least_from, least_of}
-use Rattle.widths.proofs.Fewer.{same-verdicts, other-verdicts, farthest_most}
+use Rattle.widths.proofs.Fewer.{same_verdicts_lem, other_verdicts, farthest_most}
 
 -- ---- lists of verdicts that are the same
 verdict_itself : (v : Verdict) → same_verdict v v ≡ true
@@ -46,13 +46,13 @@ module _ (ids : List ℕ) where
 
   enough : (W : ℕ) → W ≤ 63 → farthest ≤ W → same_verdicts (verdicts_with W ids) (verdicts_with 63 ids) ≡ true
   enough W l h =
-      ap (λ (vs : List Verdict). same_verdicts vs (verdicts_with 63 ids)) (same-verdicts behind_encrypted W 63 l [] ids h) ∙ same_itself (verdicts_with 63 ids)
+      ap (λ (vs : List Verdict). same_verdicts vs (verdicts_with 63 ids)) (same_verdicts_lem behind_encrypted W 63 l [] ids h) ∙ same_itself (verdicts_with 63 ids)
 
   few : (W : ℕ) → W ≤ 63 → W < farthest → same_verdicts (verdicts_with W ids) (verdicts_with 63 ids) ≡ false
   few W l h = go (same_verdicts (verdicts_with W ids) (verdicts_with 63 ids)) refl
     where
       go : (b : Bool) → same_verdicts (verdicts_with W ids) (verdicts_with 63 ids) ≡ b → b ≡ false
-      go true e = absurd (other-verdicts behind_encrypted W 63 l [] ids h (same_equal (verdicts_with W ids) (verdicts_with 63 ids) e))
+      go true e = absurd (other_verdicts behind_encrypted W 63 l [] ids h (same_equal (verdicts_with W ids) (verdicts_with 63 ids) e))
       go false e = refl
 
   least_from_lem : (tries W : ℕ) → W + tries ≤ 63 → farthest ≤ W + tries → least_from tries W ids ≡ max W farthest

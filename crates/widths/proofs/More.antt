@@ -13,7 +13,7 @@ use Rattle.window.specs.Windows.{late_by}
 use Rattle.window.specs.History.{verdict_of, ruled}
 use Rattle.window.specs.declared.Verdict.{Verdict}
 use Rattle.window.specs.declared.Verdict.TheVariants.{New, Duplicate}
-use Rattle.window.proofs.Accepting.{new-above, new-same, new-near, new-old, step-new, step-old}
+use Rattle.window.proofs.Accepting.{new_above, new_same, new_near, new_old, step_new, step_old}
 use Rattle.window.proofs.History.{heard_new}
 use Rattle.window.proofs.Lists.{member_here, member_there}
 use Rattle.widths.specs.Trial.{NewToo, new_among, lost_of, lost_from, unless_lost, without_lost}
@@ -89,7 +89,7 @@ module _ (B w W : ℕ) (l : w ≤ W) (ps qs : List ℕ) (id : ℕ) (s : Within w
   both_new : greatest ps ≤ p + w → accepts B w ps id ≡ true → accepts B W qs id ≡ true → Goes
   unfolding Goes lost
   both_new n e f = (
-    subst₂ (Within w) (sym (step-new B w ps id e)) (ap (λ (q : ℕ). q ∷ qs) (s.place B id) ∙ sym (step-new B W qs id f)) (both_join p s),
+    subst₂ (Within w) (sym (step_new B w ps id e)) (ap (λ (q : ℕ). q ∷ qs) (s.place B id) ∙ sym (step_new B W qs id f)) (both_join p s),
     λ _. f,
     ap₂ (λ (a b : Bool). cond a 1 0 + cond b (lost_of w (late_by B qs id)) 0) e f
         ∙ ap (λ (b : Bool). 1 + cond {A = ℕ} b 1 0) (le-ltb w (late_by B qs id) (omega (arith, late_same)))
@@ -99,7 +99,7 @@ module _ (B w W : ℕ) (l : w ≤ W) (ps qs : List ℕ) (id : ℕ) (s : Within w
   both_old : accepts B w ps id ≡ false → accepts B W qs id ≡ false → Goes
   unfolding Goes lost
   both_old e f = (
-    subst₂ (Within w) (sym (step-old B w ps id e)) (sym (step-old B W qs id f)) s,
+    subst₂ (Within w) (sym (step_old B w ps id e)) (sym (step_old B W qs id f)) s,
     λ t. absurd (true≢false (sym t ∙ e)),
     ap₂ (λ (a b : Bool). cond a 1 0 + cond b (lost_of w (late_by B qs id)) 0) e f ∙ sym (ap (λ (b : Bool). cond {A = ℕ} b 1 0) f),
   )
@@ -107,7 +107,7 @@ module _ (B w W : ℕ) (l : w ≤ W) (ps qs : List ℕ) (id : ℕ) (s : Within w
   one_new : p + w < greatest ps → accepts B w ps id ≡ false → accepts B W qs id ≡ true → Goes
   unfolding Goes lost
   one_new h e f = (
-    subst₂ (Within w) (sym (step-old B w ps id e)) (ap (λ (q : ℕ). q ∷ qs) (s.place B id) ∙ sym (step-new B W qs id f)) (one_joins ps p h s),
+    subst₂ (Within w) (sym (step_old B w ps id e)) (ap (λ (q : ℕ). q ∷ qs) (s.place B id) ∙ sym (step_new B W qs id f)) (one_joins ps p h s),
     λ _. f,
     ap₂ (λ (a b : Bool). cond a 1 0 + cond b (lost_of w (late_by B qs id)) 0) e f
         ∙ ap (λ (b : Bool). 0 + cond {A = ℕ} b 1 0) (lt-ltb w (late_by B qs id) (omega (arith, late_same)))
@@ -126,20 +126,20 @@ module _ (B w W : ℕ) (l : w ≤ W) (ps qs : List ℕ) (id : ℕ) (s : Within w
       -- within the w marks both go by the same mark
       by : (b : Bool) → p < M → M ≤ p + w → member p ps ≡ b → Goes
       by true a n e =
-          both_old (fewer (new-near w ps p (omega arith) a ∙ ap not e))
-          (more (new-near W qs p (omega (arith, s.top)) (omega (arith, s.top)) ∙ ap not (sym (s.near p n) ∙ e)))
+          both_old (fewer (new_near w ps p (omega arith) a ∙ ap not e))
+          (more (new_near W qs p (omega (arith, s.top)) (omega (arith, s.top)) ∙ ap not (sym (s.near p n) ∙ e)))
       by false a n e =
-          both_new n (fewer (new-near w ps p (omega arith) a ∙ ap not e))
-          (more (new-near W qs p (omega (arith, s.top)) (omega (arith, s.top)) ∙ ap not (sym (s.near p n) ∙ e)))
+          both_new n (fewer (new_near w ps p (omega arith) a ∙ ap not e))
+          (more (new_near W qs p (omega (arith, s.top)) (omega (arith, s.top)) ∙ ap not (sym (s.near p n) ∙ e)))
 
       -- behind them the fewer say nothing new
       far : (b : Bool) → p + w < M → is_new_position W qs p ≡ b → Goes
-      far true n e = one_new n (fewer (new-old w ps p n)) (more e)
-      far false n e = both_old (fewer (new-old w ps p n)) (more e)
+      far true n e = one_new n (fewer (new_old w ps p n)) (more e)
+      far false n e = both_old (fewer (new_old w ps p n)) (more e)
 
       go : Dec (M < p) → Dec (p ≡ M) → Dec (p + w < M) → Goes
-      go (yes a) e n = both_new (omega arith) (fewer (new-above w ps p a)) (more (new-above W qs p (omega (arith, s.top))))
-      go (no a) (yes e) n = both_old (fewer (new-same w ps p e)) (more (new-same W qs p (e ∙ s.top)))
+      go (yes a) e n = both_new (omega arith) (fewer (new_above w ps p a)) (more (new_above W qs p (omega (arith, s.top))))
+      go (no a) (yes e) n = both_old (fewer (new_same w ps p e)) (more (new_same W qs p (e ∙ s.top)))
       go (no a) (no e) (yes n) = far (is_new_position W qs p) n refl
       go (no a) (no e) (no n) = by (member p ps) (omega arith) (omega arith) refl
 

@@ -20,13 +20,13 @@ use Rattle.widths.specs.contracts.trial as trial
 
 module _ {M : Type 1} {𝓤 : Ura M} (𝓛 : Logic 𝓤) (at_mem : Memory → SProp 𝓤) (run : Routine → Fun 𝓤) where
   -- `count` gives one tally
-  pub one-count : (κs : Lfts 1) (held : ℕ) (ids : Bor (List ℕ)) (r s : Tally) (x y : AtExit count.ended κs)
+  pub one_count : (κs : Lfts 1) (held : ℕ) (ids : Bor (List ℕ)) (r s : Tally) (x y : AtExit count.ended κs)
       → let allows : Tally → AtExit count.ended κs → SProp 𝓤 = λ v e. (count.clauses 𝓛 at_mem run κs (held, (ids, tt))).ensures tt v e in
       ent 𝓤 (conj 𝓤 (allows r x) (allows s y)) (fact 𝓤 (r ≡ s))
-  one-count κs held ids r s x y = both 𝓤 _ _ _ (λ e f. e ∙ sym f)
+  one_count κs held ids r s x y = both 𝓤 _ _ _ (λ e f. e ∙ sym f)
 
   -- `trial` gives one answer
-  pub one-trial : (κs : Lfts 1) (ids : Bor (List ℕ)) (r s : Tried) (x y : AtExit trial.ended κs)
+  pub one_trial : (κs : Lfts 1) (ids : Bor (List ℕ)) (r s : Tried) (x y : AtExit trial.ended κs)
       → let allows : Tried → AtExit trial.ended κs → SProp 𝓤 = λ v e. (trial.clauses 𝓛 at_mem run κs (ids, tt)).ensures tt v e in
       ent 𝓤 (conj 𝓤 (allows r x) (allows s y)) (fact 𝓤 (r ≡ s))
-  one-trial κs ids r s x y = both 𝓤 _ _ _ (λ e f. e ∙ sym f)
+  one_trial κs ids r s x y = both 𝓤 _ _ _ (λ e f. e ∙ sym f)

@@ -17,11 +17,11 @@ found : (u : ℕ) (ids : List ℕ) → u ≤ most_marks → new_among (verdicts_
 found u ids l = lost_besides behind_encrypted u most_marks l [] [] ids (within_none u)
 
 module _ (v w : ℕ) (ids : List ℕ) (run : Run) (p : Passed v w ids run) where
-  pub past-found : v ≤ most_marks → new_among (verdicts_with v ids) + run.past ≡ run.new
-  past-found l = omega (arith, p.new, p.past, found v ids l)
+  pub past_found : v ≤ most_marks → new_among (verdicts_with v ids) + run.past ≡ run.new
+  past_found l = omega (arith, p.new, p.past, found v ids l)
 
-  pub beyond-found : w ≤ most_marks → new_among (verdicts_with w ids) + run.beyond ≡ run.new
-  beyond-found l = omega (arith, p.new, p.beyond, found w ids l)
+  pub beyond_found : w ≤ most_marks → new_among (verdicts_with w ids) + run.beyond ≡ run.new
+  beyond_found l = omega (arith, p.new, p.beyond, found w ids l)
 
 -- there are no more of them than ids
 pub found_most : (W : ℕ) (ids : List ℕ) → new_among (verdicts_with W ids) ≤ length ids

@@ -11,11 +11,11 @@ use lib.ListN.{length}
 use Rattle.window.specs.Rows.{marks_held, behind_plain, behind_encrypted, behind_of, rolled_of}
 use Rattle.window.specs.History.{Ids, verdicts_of, ruled}
 use Rattle.window.specs.declared.Row.{Row}
-use Rattle.window.proofs.Rows.{list-free}
+use Rattle.window.proofs.Rows.{list_free}
 use Rattle.window.proofs.Promises.{gateway_history_of_a_row}
 use Rattle.widths.specs.Trial.{ids_of, verdicts_with, farthest_new, lost_from, without_lost, tally_of, least_of, Smallest, NewToo, recorded, counted_of, trial_of}
 use Rattle.widths.specs.declared.Tried.TheVariants.{Refused}
-use Rattle.widths.proofs.Fewer.{same-verdicts, other-verdicts, farthest_most}
+use Rattle.widths.proofs.Fewer.{same_verdicts_lem, other_verdicts, farthest_most}
 use Rattle.widths.proofs.Least.{least_is}
 use Rattle.widths.proofs.Running.{counted_once}
 use Rattle.widths.proofs.Recorded.{recorded_length, recorded_back, decided}
@@ -24,18 +24,18 @@ use Rattle.widths.proofs.More.{within_none, new_too, lost_besides, without_lost_
 -- ---- the refusal
 module _ (bytes : List ℕ) where
   -- A number of bytes that is not a multiple of 4 is refused.
-  pub broken-id-is-refused : (length bytes % 4 ≡ 0 → ⊥) → trial_of bytes ≡ Refused 28
-  broken-id-is-refused h = decided bytes true (ap (λ (b : Bool). not b || ltb 65536 (length bytes)) (ne_eqb (length bytes % 4) 0 h))
+  pub broken_id_is_refused : (length bytes % 4 ≡ 0 → ⊥) → trial_of bytes ≡ Refused 28
+  broken_id_is_refused h = decided bytes true (ap (λ (b : Bool). not b || ltb 65536 (length bytes)) (ne_eqb (length bytes % 4) 0 h))
 
   -- More than 65,536 bytes are.
-  pub too-many-are-refused : 65536 < length bytes → trial_of bytes ≡ Refused 28
-  too-many-are-refused h =
+  pub too_many_are_refused : 65536 < length bytes → trial_of bytes ≡ Refused 28
+  too_many_are_refused h =
       decided bytes true
       (ap (λ (b : Bool). not (eqb (length bytes % 4) 0) || b) (lt-ltb 65536 (length bytes) h) ∙ or-true (not (eqb (length bytes % 4) 0)))
 
   -- All others are counted.
-  pub whole-ids-are-counted : length bytes % 4 ≡ 0 → length bytes ≤ 65536 → trial_of bytes ≡ counted_of (ids_of bytes)
-  whole-ids-are-counted h l =
+  pub whole_ids_are_counted : length bytes % 4 ≡ 0 → length bytes ≤ 65536 → trial_of bytes ≡ counted_of (ids_of bytes)
+  whole_ids_are_counted h l =
       decided bytes false (ap₂ (λ (a b : Bool). not a || b) (eq-eqb (length bytes % 4) 0 h) (le-ltb 65536 (length bytes) l))
 
 -- ---- the ids
@@ -43,7 +43,7 @@ module _ (bytes : List ℕ) where
 -- Ids that were recorded are the ids that are tried, up to 16,384 of them.
 pub recorded_ids_are_tried : (ids : List ℕ) → Ids ids → length ids ≤ 16384 → trial_of (recorded ids) ≡ counted_of ids
 recorded_ids_are_tried ids h l =
-    whole-ids-are-counted (recorded ids) (omega (arith, recorded_length ids)) (omega (arith, recorded_length ids)) ∙ ap counted_of (recorded_back ids h)
+    whole_ids_are_counted (recorded ids) (omega (arith, recorded_length ids)) (omega (arith, recorded_length ids)) ∙ ap counted_of (recorded_back ids h)
 
 -- ---- the counts
 
@@ -53,7 +53,7 @@ pub as_an_encrypted_row_gives : (row : Row) → row.used ≡ false → (row.key 
 unfolding behind_of
 as_an_encrypted_row_gives row free encrypted l ids h =
     (gateway_history_of_a_row row l ids h).0
-    ∙ ap (λ (ps : List ℕ). ruled (behind_of row.key) marks_held ps ids) (list-free marks_held row free)
+    ∙ ap (λ (ps : List ℕ). ruled (behind_of row.key) marks_held ps ids) (list_free marks_held row free)
     ∙ ap (λ (b : Bool). ruled (cond b behind_plain behind_encrypted) marks_held [] ids) (ne_eqb row.key 0 encrypted)
 
 -- Every id is counted once, as new or as a duplicate.
@@ -82,28 +82,28 @@ counts_differ_by_the_lost w W l ids = lost_besides behind_encrypted w W l [] [] 
 -- ---- the least number of marks
 module _ (ids : List ℕ) where
   -- It is the greater of 1 and the way back to the farthest id that 63 marks found new: one pass finds it.
-  pub least-in-one-pass : least_of ids ≡ max 1 (farthest_new behind_encrypted 63 [] ids)
-  least-in-one-pass = least_is ids
+  pub least_in_one_pass : least_of ids ≡ max 1 (farthest_new behind_encrypted 63 [] ids)
+  least_in_one_pass = least_is ids
 
   -- Every number of marks from the least to 63 gives the verdicts of 63.
-  pub enough-from-least-to-63 : (W : ℕ) → least_of ids ≤ W → W ≤ 63 → verdicts_with W ids ≡ verdicts_with 63 ids
-  enough-from-least-to-63 W h l = same-verdicts behind_encrypted W 63 l [] ids (omega (arith, least_is ids))
+  pub enough_from_least_to_63 : (W : ℕ) → least_of ids ≤ W → W ≤ 63 → verdicts_with W ids ≡ verdicts_with 63 ids
+  enough_from_least_to_63 W h l = same_verdicts_lem behind_encrypted W 63 l [] ids (omega (arith, least_is ids))
 
   -- It is the smallest number from 1 to 63 whose verdicts all equal those of 63.
-  pub least-is-smallest : Smallest ids (least_of ids)
-  least-is-smallest =
+  pub least_is_smallest : Smallest ids (least_of ids)
+  least_is_smallest =
       let e = least_is ids in
       let f = farthest_most behind_encrypted 63 [] ids in
       record {
         from = omega arith;
         to = omega arith;
-        same = enough-from-least-to-63 (least_of ids) (omega arith) (omega arith);
-        smallest = λ m l h s. other-verdicts behind_encrypted m 63 (omega arith) [] ids (omega arith) s;
+        same = enough_from_least_to_63 (least_of ids) (omega arith) (omega arith);
+        smallest = λ m l h s. other_verdicts behind_encrypted m 63 (omega arith) [] ids (omega arith) s;
       }
 
   -- There is one such number.
-  pub one-smallest : (m n : ℕ) → Smallest ids m → Smallest ids n → m ≡ n
-  one-smallest m n s t = go (dec_lt m n) (dec_lt n m)
+  pub one_smallest : (m n : ℕ) → Smallest ids m → Smallest ids n → m ≡ n
+  one_smallest m n s t = go (dec_lt m n) (dec_lt n m)
     where
       go : Dec (m < n) → Dec (n < m) → m ≡ n
       go (yes l) r = absurd (t.smallest m s.from l s.same)

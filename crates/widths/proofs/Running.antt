@@ -103,8 +103,8 @@ Left v w all run ids =
 
 module _ (v w : ℕ) (all : List ℕ) where
   -- from the first id on
-  pub left-first : (run : Run) → (window_in run).used ≡ false → run.new ≡ 0 → run.past ≡ 0 → run.beyond ≡ 0 → run.farthest ≡ 0 → Left v w all run all
-  left-first run u n x y f =
+  pub left_first : (run : Run) → (window_in run).used ≡ false → run.new ≡ 0 → run.past ≡ 0 → run.beyond ≡ 0 → run.farthest ≡ 0 → Left v w all run all
+  left_first run u n x y f =
       ([], record { far = tt; shows = u; new = omega arith; past = omega arith; beyond = omega arith; farthest = omega arith })
 
   pub left_on : (run next : Run) (left ids : List ℕ) (id : ℕ) → id < 2 ^ 32 → left ≡ id ∷ ids → next ≡ run_after v w run id → Left v w all run left → Left v w all next ids
@@ -127,9 +127,9 @@ module _ (v w : ℕ) (all : List ℕ) where
       farthest = farthest_new behind_encrypted most_marks [] all
 
   -- to the last
-  pub left-none : (run : Run) (left : List ℕ) → left ≡ [] → Left v w all run left → Passed v w all run
+  pub left_none : (run : Run) (left : List ℕ) → left ≡ [] → Left v w all run left → Passed v w all run
   unfolding ruled farthest_new lost_from
-  left-none run left none c =
+  left_none run left none c =
       let last : Left v w all run [] = subst (Left v w all run) none c in
       record {
         new = omega (arith, last.1.new);

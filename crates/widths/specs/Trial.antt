@@ -93,7 +93,7 @@ least_from (suc tries) W ids = cond (same_verdicts (verdicts_with W ids) (verdic
 unfoldable pub least_of : List ℕ → ℕ
 least_of ids = least_from 62 1 ids
 
--- what is asked of that number (`least-is-smallest` in proofs/Promises.antt)
+-- what is asked of that number (`least_is_smallest` in proofs/Promises.antt)
 pub record Smallest (ids : List ℕ) (n : ℕ) : Type 0 where
   pub from : 1 ≤ n
   pub to : n ≤ 63

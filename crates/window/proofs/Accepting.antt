@@ -7,39 +7,39 @@ use Rattle.window.specs.Rule.{member, greatest, position_after, is_new_position,
 
 -- ---- what is new
 module _ (W : ℕ) (ps : List ℕ) (p : ℕ) where
-  pub new-above : greatest ps < p → is_new_position W ps p ≡ true
+  pub new_above : greatest ps < p → is_new_position W ps p ≡ true
   unfolding is_new_position
-  new-above h = ap (λ (b : Bool). b || leb (greatest ps - W) p && ltb p (greatest ps) && not (member p ps)) (lt-ltb (greatest ps) p h)
+  new_above h = ap (λ (b : Bool). b || leb (greatest ps - W) p && ltb p (greatest ps) && not (member p ps)) (lt-ltb (greatest ps) p h)
 
-  pub new-same : p ≡ greatest ps → is_new_position W ps p ≡ false
+  pub new_same : p ≡ greatest ps → is_new_position W ps p ≡ false
   unfolding is_new_position
-  new-same e =
+  new_same e =
       rw (le-ltb (greatest ps) p (omega arith), le-leb (greatest ps - W) p (omega arith), le-ltb p (greatest ps) (omega arith))
 
-  pub new-near : greatest ps ≤ p + W → p < greatest ps → is_new_position W ps p ≡ not (member p ps)
+  pub new_near : greatest ps ≤ p + W → p < greatest ps → is_new_position W ps p ≡ not (member p ps)
   unfolding is_new_position
-  new-near l h =
+  new_near l h =
       rw (le-ltb (greatest ps) p (omega arith), le-leb (greatest ps - W) p (omega arith), lt-ltb p (greatest ps) (omega arith))
 
-  pub new-old : p + W < greatest ps → is_new_position W ps p ≡ false
+  pub new_old : p + W < greatest ps → is_new_position W ps p ≡ false
   unfolding is_new_position
-  new-old h = rw (le-ltb (greatest ps) p (omega arith), lt-leb (greatest ps - W) p (omega arith))
+  new_old h = rw (le-ltb (greatest ps) p (omega arith), lt-leb (greatest ps - W) p (omega arith))
 
   -- what is in the list is not new
-  pub new-never : member p ps ≡ true → is_new_position W ps p ≡ false
-  new-never e = go (ℕ_discrete p (greatest ps)) (dec_lt (p + W) (greatest ps))
+  pub new_never : member p ps ≡ true → is_new_position W ps p ≡ false
+  new_never e = go (ℕ_discrete p (greatest ps)) (dec_lt (p + W) (greatest ps))
     where
       go : Dec (p ≡ greatest ps) → Dec (p + W < greatest ps) → is_new_position W ps p ≡ false
-      go (yes q) l = new-same q
-      go (no q) (yes l) = new-old l
-      go (no q) (no l) = new-near (omega arith) (omega (arith, member_under p ps e)) ∙ ap not e
+      go (yes q) l = new_same q
+      go (no q) (yes l) = new_old l
+      go (no q) (no l) = new_near (omega arith) (omega (arith, member_under p ps e)) ∙ ap not e
 
 -- ---- the list after an id
 module _ (B W : ℕ) (ps : List ℕ) (id : ℕ) where
-  pub step-old : accepts B W ps id ≡ false → step B W ps id ≡ ps
+  pub step_old : accepts B W ps id ≡ false → step B W ps id ≡ ps
   unfolding step
-  step-old e = ap (λ (b : Bool). cond b (position_after B ps id ∷ ps) ps) e
+  step_old e = ap (λ (b : Bool). cond b (position_after B ps id ∷ ps) ps) e
 
-  pub step-new : accepts B W ps id ≡ true → step B W ps id ≡ position_after B ps id ∷ ps
+  pub step_new : accepts B W ps id ≡ true → step B W ps id ≡ position_after B ps id ∷ ps
   unfolding step
-  step-new e = ap (λ (b : Bool). cond b (position_after B ps id ∷ ps) ps) e
+  step_new e = ap (λ (b : Bool). cond b (position_after B ps id ∷ ps) ps) e

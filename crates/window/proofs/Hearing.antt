@@ -9,10 +9,10 @@ use Rattle.window.specs.declared.windows.Window.{Window}
 use Rattle.window.specs.declared.windows.Heard.{Heard}
 use Rattle.window.specs.declared.windows.Heard.TheVariants.{New, Duplicate}
 use Rattle.window.proofs.Bits.{number_lt}
-use Rattle.window.proofs.Lists.{member_there, greatest_over, greatest_in, marked-at, marked-greatest}
+use Rattle.window.proofs.Lists.{member_there, greatest_over, greatest_in, marked_at, marked_greatest}
 use Rattle.window.proofs.Positions.{Fits}
 use Rattle.window.proofs.Marks.{Keeps, Outcome, outcome_first}
-use Rattle.window.proofs.Alike.{agree, late-agree}
+use Rattle.window.proofs.Alike.{agree, late_agree}
 use Rattle.window.proofs.Growing.{Far, keeps_far}
 
 -- ---- what a window stands for
@@ -22,18 +22,18 @@ abbrev pub own_in : ℕ → Window → List ℕ
 own_in W window = (window.highest + 2 ^ 32) ∷ marked W window.marks (window.highest + 2 ^ 32)
 
 module _ (W : ℕ) (window : Window) where
-  pub window-used : window.used ≡ true → list_in W window ≡ own_in W window
-  window-used u = ap (λ (b : Bool). cond b (own_in W window) []) u
+  pub window_used : window.used ≡ true → list_in W window ≡ own_in W window
+  window_used u = ap (λ (b : Bool). cond b (own_in W window) []) u
 
-  pub window-free : window.used ≡ false → list_in W window ≡ []
-  window-free u = ap (λ (b : Bool). cond b (own_in W window) []) u
+  pub window_free : window.used ≡ false → list_in W window ≡ []
+  window_free u = ap (λ (b : Bool). cond b (own_in W window) []) u
 
 -- its highest id and its marks keep it
 pub keeps_own_in : {B W : ℕ} → Fits B W → (window : Window) → window.highest < 2 ^ 32 → Keeps W (own_in W window) window.highest window.marks
 keeps_own_in {B} {W} fits window l =
     let M : ℕ = window.highest + 2 ^ 32 in
     let rest : List ℕ = marked W window.marks M in
-    let g : greatest (M ∷ rest) ≡ M = greatest_over M rest (marked-greatest window.marks M W) in
+    let g : greatest (M ∷ rest) ≡ M = greatest_over M rest (marked_greatest window.marks M W) in
     record {
       high = ap (λ (x : ℕ). x % 2 ^ 32) g ∙ omega arith;
       far = omega (arith, g);
@@ -41,30 +41,30 @@ keeps_own_in {B} {W} fits window l =
       marks = λ k h.
           sym (ap (λ (x : ℕ). member (x - suc k) (M ∷ rest)) g
           ∙ member_there (M - suc k) M rest (λ e. omega arith)
-          ∙ marked-at window.marks M W k (omega arith) h);
+          ∙ marked_at window.marks M W k (omega arith) h);
     }
 
 pub keeps_window : {B W : ℕ} → Fits B W → (window : Window) → window.used ≡ true → window.highest < 2 ^ 32 → Keeps W (list_in W window) window.highest window.marks
 keeps_window {B} {W} fits window u l =
-    subst⁻¹ (λ (ps : List ℕ). Keeps W ps window.highest window.marks) (window-used W window u) (keeps_own_in fits window l)
+    subst⁻¹ (λ (ps : List ℕ). Keeps W ps window.highest window.marks) (window_used W window u) (keeps_own_in fits window l)
 
 -- ---- what an id comes to
 module _ {B W : ℕ} (window : Window) (id : ℕ) where
-  pub heard-old : {h m : ℕ} → Outcome B W (list_in W window) id false h m → heard_at B W window id ≡ Duplicate
+  pub heard_old : {h m : ℕ} → Outcome B W (list_in W window) id false h m → heard_at B W window id ≡ Duplicate
   unfolding heard_at heard_by
-  heard-old o =
+  heard_old o =
       let ps : List ℕ = list_in W window in
       ap (λ (b : Bool). cond b (New (late_by B ps id) (greatest (step B W ps id) % 2 ^ 32) (marks_number W (step B W ps id))) Duplicate) o.new
 
-  pub heard-new : {h m late : ℕ} → Outcome B W (list_in W window) id true h m → late_by B (list_in W window) id ≡ late → heard_at B W window id ≡ New late h m
+  pub heard_new_lem : {h m late : ℕ} → Outcome B W (list_in W window) id true h m → late_by B (list_in W window) id ≡ late → heard_at B W window id ≡ New late h m
   unfolding heard_at heard_by
-  heard-new o e = λ i. cond (o.new i) (New (e i) (o.high i) (o.marks i)) Duplicate
+  heard_new_lem o e = λ i. cond (o.new i) (New (e i) (o.high i) (o.marks i)) Duplicate
 
-  pub heard-first : Fits B W → window.used ≡ false → id < 2 ^ 32 → heard_at B W window id ≡ New 0 id 0
+  pub heard_first : Fits B W → window.used ≡ false → id < 2 ^ 32 → heard_at B W window id ≡ New 0 id 0
   unfolding position_after greatest
-  heard-first fits u l =
-      heard-new (subst⁻¹ (λ (ps : List ℕ). Outcome B W ps id true id 0) (window-free W window u) (outcome_first B W id fits l))
-      (ap (λ (ps : List ℕ). late_by B ps id) (window-free W window u) ∙ omega arith)
+  heard_first fits u l =
+      heard_new_lem (subst⁻¹ (λ (ps : List ℕ). Outcome B W ps id true id 0) (window_free W window u) (outcome_first B W id fits l))
+      (ap (λ (ps : List ℕ). late_by B ps id) (window_free W window u) ∙ omega arith)
 
 -- the marks of a new id have no other bits
 abbrev marks_in : Heard → ℕ
@@ -91,14 +91,14 @@ heard_marks B W window id late h m e = subst (λ (x : ℕ). x < 2 ^ W) (ap marks
 pub hears_full : {B W : ℕ} → Fits B W → (window : Window) (ps : List ℕ) (id : ℕ) → Far ps → ShowsIn W window ps → id < 2 ^ 32
     → heard_at B W window id ≡ heard_by B W ps id
 unfolding heard_at heard_by
-hears_full {B} {W} fits window [] id f s l = ap (λ (qs : List ℕ). heard_by B W qs id) (window-free W window s)
+hears_full {B} {W} fits window [] id f s l = ap (λ (qs : List ℕ). heard_by B W qs id) (window_free W window s)
 hears_full {B} {W} fits window (p ∷ ps) id f s l =
     let lh : window.highest < 2 ^ 32 = omega (arith, s.1) in
     let own : Keeps W (list_in W window) window.highest window.marks = keeps_window fits window s.0 lh in
     let full : Keeps W (p ∷ ps) window.highest window.marks =
     subst⁻¹ (λ (h : ℕ). Keeps W (p ∷ ps) h window.marks) s.1 (keeps_far W p ps window.marks f s.2) in
     let o = agree B W fits window.highest window.marks id lh l (list_in W window) (p ∷ ps) own full in
-    let e = late-agree B W fits window.highest window.marks id lh l (list_in W window) (p ∷ ps) own full in
+    let e = late_agree B W fits window.highest window.marks id lh l (list_in W window) (p ∷ ps) own full in
     λ i. cond (o.new i) (New (e i) (o.high i) (o.marks i)) Duplicate
 
 -- the window then shows the list after the id

@@ -16,10 +16,10 @@ use Rattle.window.specs.declared.Verdict.TheVariants.{New, Duplicate}
 use Rattle.window.proofs.Bits.{number_of}
 use Rattle.window.proofs.Positions.{Fits}
 use Rattle.window.proofs.Marks.{Keeps, outcome_first}
-use Rattle.window.proofs.Accepting.{step-new}
+use Rattle.window.proofs.Accepting.{step_new}
 use Rattle.window.proofs.Growing.{Far, far_step}
 use Rattle.window.proofs.Hearing.{hears_full, shows_on}
-use Rattle.window.proofs.Rows.{own, list-used, list-free, keeps_own, either, rolled_by, judged_hears, row_hears}
+use Rattle.window.proofs.Rows.{own, list_used, list_free, keeps_own, either, rolled_by, judged_hears, row_hears}
 
 -- ---- one message
 
@@ -70,13 +70,13 @@ stands_own {B} {W} fits row l = go row.used refl
 
     go : (b : Bool) → row.used ≡ b → Stands W row.key row (list_of W row)
     go true u =
-        subst⁻¹ (Stands W row.key row) (list-used W row u)
+        subst⁻¹ (Stands W row.key row) (list_used W row u)
         (record {
           name = refl;
           far = keeps.far;
           shows = (u, sym keeps.high, sym (number_of W row.marks (λ k. member (greatest (own W row) - suc k) (own W row)) keeps.marks));
         })
-    go false u = subst⁻¹ (Stands W row.key row) (list-free W row u) (record { name = refl; far = tt; shows = u })
+    go false u = subst⁻¹ (Stands W row.key row) (list_free W row u) (record { name = refl; far = tt; shows = u })
 
 -- a row just opened stands for its first id alone
 pub stands_opened : {B W : ℕ} → Fits B W → (node key n : ℕ) → n < 2 ^ 32 → Stands W key (opened node key n) ((n + 2 ^ 32) ∷ [])
@@ -86,7 +86,7 @@ stands_opened {B} {W} fits node key n l =
     record {
       name = refl;
       far = omega arith;
-      shows = (refl, omega arith, zero-mod (2 ^ W) ∙ sym o.marks ∙ ap (marks_number W) (step-new B W [] n o.new));
+      shows = (refl, omega arith, zero-mod (2 ^ W) ∙ sym o.marks ∙ ap (marks_number W) (step_new B W [] n o.new));
     }
 
 -- ---- what messages leave as it is
@@ -113,28 +113,28 @@ pub record Rolls (B W : ℕ) (roll : Row → ℕ → Rolled) (key : ℕ) : Type 
 
 module _ {B W : ℕ} {roll : Row → ℕ → Rolled} {key : ℕ} (r : Rolls B W roll key) where
   module _ {row : Row} {ps : List ℕ} (s : Stands W key row ps) (id : ℕ) (l : id < 2 ^ 32) where
-    pub rolls-full : roll row id ≡ judged W row (accepts B W ps id) (step B W ps id)
-    rolls-full = r.same row id s.name ∙ full_list r.fits row ps id s.far s.shows l
+    pub rolls_full : roll row id ≡ judged W row (accepts B W ps id) (step B W ps id)
+    rolls_full = r.same row id s.name ∙ full_list r.fits row ps id s.far s.shows l
 
-    pub verdict-on : (roll row id).verdict ≡ verdict_of (accepts B W ps id)
-    verdict-on = ap (λ (x : Rolled). x.verdict) rolls-full ∙ judged_verdict W row (accepts B W ps id) (step B W ps id)
+    pub verdict_on : (roll row id).verdict ≡ verdict_of (accepts B W ps id)
+    verdict_on = ap (λ (x : Rolled). x.verdict) rolls_full ∙ judged_verdict W row (accepts B W ps id) (step B W ps id)
 
     pub stands_on : Stands W key (roll row id).row (step B W ps id)
     stands_on =
         record {
           name = ap (λ (x : Rolled). x.row.key) (r.same row id s.name) ∙ either B W row id (λ x. x.row.key ≡ key) (λ h m l. s.name) s.name;
           far = far_step B W ps id s.far;
-          shows = subst⁻¹ (λ (x : Rolled). Shows W x.row (step B W ps id)) rolls-full (judged_shows B W row ps id s.shows);
+          shows = subst⁻¹ (λ (x : Rolled). Shows W x.row (step B W ps id)) rolls_full (judged_shows B W row ps id s.shows);
         }
 
     -- what a row takes as new, the rule accepts
-    pub was-accepted : (roll row id).verdict ≡ New → accepts B W ps id ≡ true
-    was-accepted new = sym (heard_verdict (accepts B W ps id)) ∙ ap heard_new (sym verdict-on ∙ new)
+    pub was_accepted : (roll row id).verdict ≡ New → accepts B W ps id ≡ true
+    was_accepted new = sym (heard_verdict (accepts B W ps id)) ∙ ap heard_new (sym verdict_on ∙ new)
 
     -- what the rule does not accept changes no row
     pub refused : accepts B W ps id ≡ false → roll row id ≡ again row
     unfolding judged
-    refused e = rolls-full ∙ ap (λ (b : Bool). judged W row b (step B W ps id)) e
+    refused e = rolls_full ∙ ap (λ (b : Bool). judged W row b (step B W ps id)) e
 
   -- the verdicts are the rule's on the full list, and the row shows the full list
   pub history : {row : Row} {ps : List ℕ} → Stands W key row ps → (ids : List ℕ) → Ids ids
@@ -143,12 +143,12 @@ module _ {B W : ℕ} {roll : Row → ℕ → Rolled} {key : ℕ} (r : Rolls B W 
   history s [] h = (refl, s)
   history s (id ∷ ids) h =
       let on = history (stands_on s id h.0) ids h.1 in
-      ((λ i. verdict-on s id h.0 i ∷ on.0 i), on.1)
+      ((λ i. verdict_on s id h.0 i ∷ on.0 i), on.1)
 
   -- from its first id on, a row is given whole by the full list
-  pub whole-along : (node n : ℕ) → n < 2 ^ 32 → (ids : List ℕ) → Ids ids
+  pub whole_along : (node n : ℕ) → n < 2 ^ 32 → (ids : List ℕ) → Ids ids
       → let full : List ℕ = accepted B W ((n + 2 ^ 32) ∷ []) ids in row_after roll (opened node key n) ids ≡ row_in_use node key (greatest full % 2 ^ 32) (marks_number W full)
-  whole-along node n l ids h =
+  whole_along node n l ids h =
       let full : List ℕ = accepted B W ((n + 2 ^ 32) ∷ []) ids in
       let k : Kept (row_after roll (opened node key n) ids) = all_along Kept roll on (opened node key n) ids (refl, refl, refl, pow_pos W) in
       let s = (history (stands_opened r.fits node key n l) ids h).1.shows in

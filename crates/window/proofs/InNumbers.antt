@@ -6,7 +6,7 @@ use Rattle.window.specs.History.{row_after, verdicts_of, ruled, Follows}
 use Rattle.window.specs.Ledger.{none, plain_row}
 use Rattle.window.specs.declared.Row.{Row}
 use Rattle.window.specs.declared.Verdict.TheVariants.{New, Duplicate}
-use Rattle.window.proofs.Promises.{history-from-the-first-id, gateway, gateway_history_of_a_row, held_back_old_report_is_never_new_again}
+use Rattle.window.proofs.Promises.{history_from_the_first_id, gateway, gateway_history_of_a_row, held_back_old_report_is_never_new_again}
 
 -- ids that arrive at an encrypted row not in use: the first, the one below it, and the first again
 follows : Follows (behind_of 0x1001) marks_held rolled_of none (list_of marks_held none) (5 ∷ 4 ∷ 5 ∷ [])
@@ -25,7 +25,7 @@ row_after_5_4_5 = follows.1
 -- 4 and 5 at a plain row just opened at 5 leave it whole with the same highest id and mark.
 pub plain_row_after_5_4_5 : row_after rolled_of (opened 14 0 5) (4 ∷ 5 ∷ []) ≡ plain_row 5 1
 unfolding member greatest position_of position_after is_new_position accepts step accepted number marks_number behind_of
-plain_row_after_5_4_5 = (history-from-the-first-id (gateway 0) 14 5 (omega arith) (4 ∷ 5 ∷ []) (omega arith, (omega arith, tt))).1
+plain_row_after_5_4_5 = (history_from_the_first_id (gateway 0) 14 5 (omega arith) (4 ∷ 5 ∷ []) (omega arith, (omega arith, tt))).1
 
 -- 5 again, once 25 has passed all its marks, is a duplicate.
 pub report_5_again_after_25 : let late : Row = row_after rolled_of (rolled_of none 5).row (25 ∷ []) in rolled_of late 5 ≡ again late

@@ -55,19 +55,19 @@ greatest_over p ps h = omega arith
 
 module _ (m M : ℕ) where
   -- each is one of the n below M
-  pub marked-out : (n p : ℕ) → ((k : ℕ) → k < n → p ≡ M - suc k → ⊥) → member p (marked n m M) ≡ false
+  pub marked_out : (n p : ℕ) → ((k : ℕ) → k < n → p ≡ M - suc k → ⊥) → member p (marked n m M) ≡ false
   unfolding marked member
-  marked-out zero p h = refl
-  marked-out (suc n) p h = go (marked-out n p (λ k l. h k (omega arith))) (bit_at m n)
+  marked_out zero p h = refl
+  marked_out (suc n) p h = go (marked_out n p (λ k l. h k (omega arith))) (bit_at m n)
     where
       go : member p (marked n m M) ≡ false → (b : Bool) → member p (cond b ((M - suc n) ∷ marked n m M) (marked n m M)) ≡ false
       go ih true = member_there p (M - suc n) (marked n m M) (h n (le_refl (suc n))) ∙ ih
       go ih false = ih
 
-  pub marked-at : (n k : ℕ) → n ≤ M → k < n → member (M - suc k) (marked n m M) ≡ bit_at m k
+  pub marked_at : (n k : ℕ) → n ≤ M → k < n → member (M - suc k) (marked n m M) ≡ bit_at m k
   unfolding marked member
-  marked-at zero k l h = absurd (omega arith)
-  marked-at (suc n) k l h = go (marked-at n k (omega arith)) (marked-out n (M - suc k)) (ℕ_discrete k n) (bit_at m n) refl
+  marked_at zero k l h = absurd (omega arith)
+  marked_at (suc n) k l h = go (marked_at n k (omega arith)) (marked_out n (M - suc k)) (ℕ_discrete k n) (bit_at m n) refl
     where
       go : (k < n → member (M - suc k) (marked n m M) ≡ bit_at m k)
           → (((i : ℕ) → i < n → M - suc k ≡ M - suc i → ⊥) → member (M - suc k) (marked n m M) ≡ false)
@@ -78,10 +78,10 @@ module _ (m M : ℕ) where
       go ih out (no e) true q = member_there (M - suc k) (M - suc n) (marked n m M) (λ r. e (omega arith)) ∙ ih (omega arith)
       go ih out (no e) false q = ih (omega arith)
 
-  pub marked-greatest : (n : ℕ) → greatest (marked n m M) ≤ M
+  pub marked_greatest : (n : ℕ) → greatest (marked n m M) ≤ M
   unfolding marked greatest
-  marked-greatest zero = omega arith
-  marked-greatest (suc n) = go (marked-greatest n) (bit_at m n)
+  marked_greatest zero = omega arith
+  marked_greatest (suc n) = go (marked_greatest n) (bit_at m n)
     where
       go : greatest (marked n m M) ≤ M → (b : Bool) → greatest (cond b ((M - suc n) ∷ marked n m M) (marked n m M)) ≤ M
       go ih true = omega arith
@@ -94,7 +94,7 @@ marked_distinct m M zero l = tt
 marked_distinct m M (suc n) l = go (marked_distinct m M n (omega arith)) (bit_at m n)
   where
     go : Distinct (marked n m M) → (b : Bool) → Distinct (cond b ((M - suc n) ∷ marked n m M) (marked n m M))
-    go ih true = (marked-out m M n (M - suc n) (λ k h e. omega arith), ih)
+    go ih true = (marked_out m M n (M - suc n) (λ k h e. omega arith), ih)
     go ih false = ih
 
 -- the marked positions are those of the low bits

@@ -6,8 +6,8 @@ use native.Mathlib.Nat.{zero-mod}
 use native.Mathlib.Decide.{ℕ_discrete, dec_lt}
 use lib.Bits.{bit_or}
 use Rattle.window.proofs.Bits.{number_of, bit_or_lem, bit_up, bit_under, bit_one, bit_other, bit_none, moved_out}
-use Rattle.window.proofs.Positions.{Fits, position-ahead, position-behind}
-use Rattle.window.proofs.Accepting.{new-above, new-same, new-near, new-old, step-old, step-new}
+use Rattle.window.proofs.Positions.{Fits, position_ahead, position_behind}
+use Rattle.window.proofs.Accepting.{new_above, new_same, new_near, new_old, step_old, step_new}
 use Rattle.window.proofs.Lists.{member_here, member_there, member_above, greatest_under, greatest_over}
 use Rattle.window.specs.Rule.{member, greatest, bit_at, position_after, is_new_position, accepts, step, number, marks_number}
 use Rattle.window.specs.Windows.{late_by}
@@ -33,8 +33,8 @@ module _ (B W : ℕ) (ps : List ℕ) (id p : ℕ) (at : position_after B ps id �
       let o : accepts B W ps id ≡ false = ap (is_new_position W ps) at ∙ e in
       record {
         new = o;
-        high = ap (λ (l : List ℕ). greatest l % 2 ^ 32) (step-old B W ps id o) ∙ s.high;
-        marks = ap (marks_number W) (step-old B W ps id o) ∙ number_of W m (λ k. member (greatest ps - suc k) ps) s.marks;
+        high = ap (λ (l : List ℕ). greatest l % 2 ^ 32) (step_old B W ps id o) ∙ s.high;
+        marks = ap (marks_number W) (step_old B W ps id o) ∙ number_of W m (λ k. member (greatest ps - suc k) ps) s.marks;
       }
 
   comes_new : (g m : ℕ) → is_new_position W ps p ≡ true → greatest (p ∷ ps) ≡ g
@@ -43,7 +43,7 @@ module _ (B W : ℕ) (ps : List ℕ) (id p : ℕ) (at : position_after B ps id �
   unfolding accepts marks_number
   comes_new g m en eg em =
       let e : accepts B W ps id ≡ true = ap (is_new_position W ps) at ∙ en in
-      let es : step B W ps id ≡ p ∷ ps = step-new B W ps id e ∙ ap (λ (x : ℕ). x ∷ ps) at in
+      let es : step B W ps id ≡ p ∷ ps = step_new B W ps id e ∙ ap (λ (x : ℕ). x ∷ ps) at in
       record {
         new = e;
         high = ap (λ (l : List ℕ). greatest l % 2 ^ 32) es ∙ ap (λ (x : ℕ). x % 2 ^ 32) eg;
@@ -58,7 +58,7 @@ pub outcome_first : (B W id : ℕ) → Fits B W → id < 2 ^ 32 → Outcome B W 
 unfolding position_after greatest member
 outcome_first B W id fits l =
     subst₂ (Outcome B W [] id true) (omega arith) (zero-mod (2 ^ W))
-    (comes_new B W [] id (id + 2 ^ 32) refl (id + 2 ^ 32) 0 (new-above W [] (id + 2 ^ 32) (omega arith)) (omega arith)
+    (comes_new B W [] id (id + 2 ^ 32) refl (id + 2 ^ 32) 0 (new_above W [] (id + 2 ^ 32) (omega arith)) (omega arith)
     (λ k lk. bit_none k ∙ sym (member_there (id + 2 ^ 32 - suc k) (id + 2 ^ 32) [] (λ e. omega arith))))
 
 -- ---- an arriving id, d ahead of the highest
@@ -74,42 +74,42 @@ module _ {B W : ℕ} {ps : List ℕ} {h m id d : ℕ} (a : Arrival B W ps h m id
   far = a.keeps.far
 
   ahead : d + B < 2 ^ 32 → position_after B ps id ≡ greatest ps + d
-  ahead = position-ahead B W a.fits ps id d far a.keeps.held a.small (omega (arith, a.keeps.high))
+  ahead = position_ahead B W a.fits ps id d far a.keeps.held a.small (omega (arith, a.keeps.high))
 
   behind : 2 ^ 32 ≤ d + B → position_after B ps id ≡ greatest ps - (2 ^ 32 - d)
-  behind = position-behind B W a.fits ps id d far a.keeps.held a.small (omega (arith, a.keeps.high))
+  behind = position_behind B W a.fits ps id d far a.keeps.held a.small (omega (arith, a.keeps.high))
 
   -- the highest id again
-  pub outcome-same : d ≡ 0 → Outcome B W ps id false h (m % 2 ^ W)
-  outcome-same z = comes_old B W ps id (greatest ps) (ahead (omega arith) ∙ omega arith) h m a.keeps (new-same W ps (greatest ps) refl)
+  pub outcome_same : d ≡ 0 → Outcome B W ps id false h (m % 2 ^ W)
+  outcome_same z = comes_old B W ps id (greatest ps) (ahead (omega arith) ∙ omega arith) h m a.keeps (new_same W ps (greatest ps) refl)
 
   -- behind all the marks
-  pub outcome-old : 2 ^ 32 ≤ d + B → d + W < 2 ^ 32 → Outcome B W ps id false h (m % 2 ^ W)
-  outcome-old l o = comes_old B W ps id _ (behind l) h m a.keeps (new-old W ps (greatest ps - (2 ^ 32 - d)) (omega (arith, far)))
+  pub outcome_old : 2 ^ 32 ≤ d + B → d + W < 2 ^ 32 → Outcome B W ps id false h (m % 2 ^ W)
+  outcome_old l o = comes_old B W ps id _ (behind l) h m a.keeps (new_old W ps (greatest ps - (2 ^ 32 - d)) (omega (arith, far)))
 
   -- within the marks, where b is one less than the way back
   near : (b : ℕ) → d + suc b ≡ 2 ^ 32 → b < W → position_after B ps id ≡ greatest ps - suc b
   near b e l = behind (omega arith) ∙ omega arith
 
   -- how far behind the greatest it lies: ahead of it not at all, else by the way back
-  pub late-ahead : d + B < 2 ^ 32 → late_by B ps id ≡ 0
-  late-ahead l = ap (λ (p : ℕ). greatest ps - p) (ahead l) ∙ omega arith
+  pub late_ahead : d + B < 2 ^ 32 → late_by B ps id ≡ 0
+  late_ahead l = ap (λ (p : ℕ). greatest ps - p) (ahead l) ∙ omega arith
 
-  pub late-behind : 2 ^ 32 ≤ d + B → late_by B ps id ≡ 2 ^ 32 - d
-  late-behind l = ap (λ (p : ℕ). greatest ps - p) (behind l) ∙ omega (arith, far)
+  pub late_behind : 2 ^ 32 ≤ d + B → late_by B ps id ≡ 2 ^ 32 - d
+  late_behind l = ap (λ (p : ℕ). greatest ps - p) (behind l) ∙ omega (arith, far)
 
   -- its mark is set
-  pub outcome-marked : (b : ℕ) → d + suc b ≡ 2 ^ 32 → b < W → bit_at m b ≡ true → Outcome B W ps id false h (m % 2 ^ W)
-  outcome-marked b e l t =
+  pub outcome_marked : (b : ℕ) → d + suc b ≡ 2 ^ 32 → b < W → bit_at m b ≡ true → Outcome B W ps id false h (m % 2 ^ W)
+  outcome_marked b e l t =
       comes_old B W ps id _ (near b e l) h m a.keeps
-      (new-near W ps (greatest ps - suc b) (omega (arith, far)) (omega (arith, far)) ∙ ap not (sym (a.keeps.marks b l) ∙ t))
+      (new_near W ps (greatest ps - suc b) (omega (arith, far)) (omega (arith, far)) ∙ ap not (sym (a.keeps.marks b l) ∙ t))
 
   -- its mark is clear, and is filled
-  pub outcome-filled : (b : ℕ) → d + suc b ≡ 2 ^ 32 → b < W → bit_at m b ≡ false → Outcome B W ps id true h (bit_or m (2 ^ b) % 2 ^ W)
-  outcome-filled b e l t =
+  pub outcome_filled : (b : ℕ) → d + suc b ≡ 2 ^ 32 → b < W → bit_at m b ≡ false → Outcome B W ps id true h (bit_or m (2 ^ b) % 2 ^ W)
+  outcome_filled b e l t =
       subst (λ (x : ℕ). Outcome B W ps id true x (bit_or m (2 ^ b) % 2 ^ W)) a.keeps.high
       (comes_new B W ps id _ (near b e l) (greatest ps) (bit_or m (2 ^ b))
-      (new-near W ps (greatest ps - suc b) (omega (arith, far)) (omega (arith, far)) ∙ ap not (sym (a.keeps.marks b l) ∙ t))
+      (new_near W ps (greatest ps - suc b) (omega (arith, far)) (omega (arith, far)) ∙ ap not (sym (a.keeps.marks b l) ∙ t))
       (greatest_under (greatest ps - suc b) ps (omega arith))
       (λ k lk. go k lk (ℕ_discrete k b)))
     where
@@ -145,16 +145,16 @@ module _ {B W : ℕ} {ps : List ℕ} {h m id d : ℕ} (a : Arrival B W ps h m id
   ahead_by c e l =
       subst (λ (x : ℕ). Outcome B W ps id true x (bit_or (m * 2 ^ suc c) (2 ^ c) % 2 ^ W)) (omega (arith, a.around, a.keeps.high))
       (comes_new B W ps id _ (ahead l ∙ ap (λ (x : ℕ). greatest ps + x) e) (greatest ps + suc c) (bit_or (m * 2 ^ suc c) (2 ^ c))
-      (new-above W ps (greatest ps + suc c) (omega arith))
+      (new_above W ps (greatest ps + suc c) (omega arith))
       (greatest_over (greatest ps + suc c) ps (omega arith))
       (moved c e))
 
   -- ahead of the highest, or further behind than B
-  pub outcome-ahead : 0 < d → d + B < 2 ^ 32 → Outcome B W ps id true id (bit_or (m * 2 ^ d) (2 ^ (d - 1)) % 2 ^ W)
-  outcome-ahead z l =
+  pub outcome_ahead : 0 < d → d + B < 2 ^ 32 → Outcome B W ps id true id (bit_or (m * 2 ^ d) (2 ^ (d - 1)) % 2 ^ W)
+  outcome_ahead z l =
       let e : d ≡ suc (d - 1) = omega arith in
       subst (λ (x : ℕ). Outcome B W ps id true id (bit_or (m * 2 ^ x) (2 ^ (d - 1)) % 2 ^ W)) (sym e) (ahead_by (d - 1) e l)
 
   -- the same by more than all the marks: none is left
-  pub outcome-past : W < d → d + B < 2 ^ 32 → Outcome B W ps id true id 0
-  outcome-past z l = subst (Outcome B W ps id true id) (moved_out W m d z) (outcome-ahead (omega arith) l)
+  pub outcome_past : W < d → d + B < 2 ^ 32 → Outcome B W ps id true id 0
+  outcome_past z l = subst (Outcome B W ps id true id) (moved_out W m d z) (outcome_ahead (omega arith) l)

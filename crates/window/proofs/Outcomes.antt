@@ -26,25 +26,25 @@ module _ {M : Type 1} {𝓤 : Ura M} (𝓛 : Logic 𝓤) (at_mem : Memory → SP
       fact_use 𝓤 φ (conj_l 𝓤 (fact 𝓤 φ) (fact 𝓤 ψ)) (λ x. via 𝓤 (fact 𝓤 ψ) (conj_r 𝓤 (fact 𝓤 φ) (fact 𝓤 ψ)) (fact_mono 𝓤 ψ χ (k x)))
 
   -- `Window::heard` gives one answer
-  pub one-heard : (window : Window) (held id : ℕ) (r s : Heard)
+  pub one_heard : (window : Window) (held id : ℕ) (r s : Heard)
       → let allows : Heard → SProp 𝓤 = λ x. (heard.clauses 𝓛 at_mem run tt (window, (held, (id, tt)))).ensures tt x (window, (held, (id, tt))) in
       ent 𝓤 (conj 𝓤 (allows r) (allows s)) (fact 𝓤 (r ≡ s))
-  one-heard window held id r s = both _ _ _ (λ e f. e ∙ sym f)
+  one_heard window held id r s = both _ _ _ (λ e f. e ∙ sym f)
 
   -- `Row::open` gives one row
-  pub one-open : (node key id : ℕ) (r s : Row)
+  pub one_open : (node key id : ℕ) (r s : Row)
       → let allows : Row → SProp 𝓤 = λ x. (opening.clauses 𝓛 at_mem run tt (node, (key, (id, tt)))).ensures tt x (node, (key, (id, tt))) in
       ent 𝓤 (conj 𝓤 (allows r) (allows s)) (fact 𝓤 (r ≡ s))
-  one-open node key id r s = both _ _ _ (λ e f. e ∙ sym f)
+  one_open node key id r s = both _ _ _ (λ e f. e ∙ sym f)
 
   -- `Row::rolled` gives one verdict and one row
-  pub one-rolled : (row : Row) (id : ℕ) (r s : Rolled)
+  pub one_rolled : (row : Row) (id : ℕ) (r s : Rolled)
       → let allows : Rolled → SProp 𝓤 = λ x. (rolled.clauses 𝓛 at_mem run tt (row, (id, tt))).ensures tt x (row, (id, tt)) in
       ent 𝓤 (conj 𝓤 (allows r) (allows s)) (fact 𝓤 (r ≡ s))
-  one-rolled row id r s = both _ _ _ (λ e f. e ∙ sym f)
+  one_rolled row id r s = both _ _ _ (λ e f. e ∙ sym f)
 
   -- `roll` gives one verdict, and leaves one row behind the reference
-  pub one-roll : (κs : Lfts 1) (row : Bor Row) (id : ℕ) (r s : Verdict) (x y : AtExit roll.ended κs)
+  pub one_roll : (κs : Lfts 1) (row : Bor Row) (id : ℕ) (r s : Verdict) (x y : AtExit roll.ended κs)
       → let allows : Verdict → AtExit roll.ended κs → SProp 𝓤 = λ v e. (roll.clauses 𝓛 at_mem run κs (row, (id, tt))).ensures tt v e in
       ent 𝓤 (conj 𝓤 (allows r x) (allows s y)) (fact 𝓤 ((r ≡ s) × (x.0.now ≡ y.0.now)))
-  one-roll κs row id r s x y = both _ _ _ (λ e f. (e.0 ∙ sym f.0, e.1 ∙ sym f.1))
+  one_roll κs row id r s x y = both _ _ _ (λ e f. (e.0 ∙ sym f.0, e.1 ∙ sym f.1))

@@ -31,8 +31,8 @@ position_id B (p ∷ ps) id l = (position_is B (greatest (p ∷ ps)) id l).0
 
 -- d is the way forward from the greatest position to the id
 module _ (B W : ℕ) (fits : Fits B W) (ps : List ℕ) (id d : ℕ) (far : 2 ^ 32 ≤ greatest ps) (held : member (greatest ps) ps ≡ true) (ld : d < 2 ^ 32) (w : (d + greatest ps) % 2 ^ 32 ≡ id) where
-  pub position-ahead : d + B < 2 ^ 32 → position_after B ps id ≡ greatest ps + d
-  position-ahead h = position_heard B ps id (greatest ps + d) (greatest ps) held (omega arith)
+  pub position_ahead : d + B < 2 ^ 32 → position_after B ps id ≡ greatest ps + d
+  position_ahead h = position_heard B ps id (greatest ps + d) (greatest ps) held (omega arith)
 
-  pub position-behind : 2 ^ 32 ≤ d + B → position_after B ps id ≡ greatest ps - (2 ^ 32 - d)
-  position-behind h = position_heard B ps id (greatest ps - (2 ^ 32 - d)) (greatest ps) held (omega arith)
+  pub position_behind : 2 ^ 32 ≤ d + B → position_after B ps id ≡ greatest ps - (2 ^ 32 - d)
+  position_behind h = position_heard B ps id (greatest ps - (2 ^ 32 - d)) (greatest ps) held (omega arith)

@@ -8,7 +8,7 @@ pub use Rattle.window.proofs.History.{full_list}
 -- A row in use stays in use under its name.
 pub use Rattle.window.proofs.Rows.{stays_in_use}
 -- Only one outcome fits each public contract.
-pub use Rattle.window.proofs.Outcomes.{one-open, one-rolled, one-roll}
+pub use Rattle.window.proofs.Outcomes.{one_open, one_rolled, one_roll}
 use Rattle.std.proofs.Common.{◌≡◌, ℕ, suc, ◌+◌, ◌-◌, ◌*◌, ◌%◌, ◌^◌, ◌<◌, ◌≤◌, Bool, true, false, cond, not, List, [], ◌∷◌, sym, refl, ap, ◌∙◌, subst, true≢false, le_trans, le_refl, arith, eq-eqb, ne_eqb}
 use mathlib.Core.Path.{subst⁻¹}
 use native.Mathlib.Decide.{dec_le}
@@ -21,11 +21,11 @@ use Rattle.window.specs.declared.Rolled.{Rolled}
 use Rattle.window.specs.declared.Verdict.TheVariants.{New, Duplicate}
 use Rattle.window.proofs.Lists.{marked_mod, member_here, member_under, member_more}
 use Rattle.window.proofs.Positions.{Fits, position_is, position_one, position_heard, position_id}
-use Rattle.window.proofs.Marks.{Arrival, outcome-ahead, outcome-old, outcome-marked, outcome-filled}
-use Rattle.window.proofs.Accepting.{new-above, new-never, step-old, step-new}
+use Rattle.window.proofs.Marks.{Arrival, outcome_ahead, outcome_old, outcome_marked, outcome_filled}
+use Rattle.window.proofs.Accepting.{new_above, new_never, step_old, step_new}
 use Rattle.window.proofs.Growing.{marks_say}
 use Rattle.window.proofs.Rows.{fits_gateway, keeps_row, list_distinct, row_old, row_new, row_first, either}
-use Rattle.window.proofs.History.{heard_new, Stands, Rolls, stands_on, was-accepted, refused, history, stands_own, stands_opened, whole-along}
+use Rattle.window.proofs.History.{heard_new, Stands, Rolls, stands_on, was_accepted, refused, history, stands_own, stands_opened, whole_along}
 
 -- ---- the rule of positions, over B and W
 
@@ -35,18 +35,18 @@ one_position B M id l = (position_is B M id l, position_one B M id)
 
 module _ (B W : ℕ) (ps : List ℕ) where
   -- No position is accepted twice: what is new was not in the list.
-  pub no-position-twice : (id : ℕ) → accepts B W ps id ≡ true → member (position_after B ps id) ps ≡ false
+  pub no_position_twice : (id : ℕ) → accepts B W ps id ≡ true → member (position_after B ps id) ps ≡ false
   unfolding accepts
-  no-position-twice id e = go (member (position_after B ps id) ps) refl
+  no_position_twice id e = go (member (position_after B ps id) ps) refl
     where
       go : (b : Bool) → member (position_after B ps id) ps ≡ b → b ≡ false
-      go true h = absurd (true≢false (sym e ∙ new-never W ps (position_after B ps id) h))
+      go true h = absurd (true≢false (sym e ∙ new_never W ps (position_after B ps id) h))
       go false h = refl
 
   -- The greatest position never falls.
-  pub greatest-never-falls : (id : ℕ) → greatest ps ≤ greatest (step B W ps id)
+  pub greatest_never_falls : (id : ℕ) → greatest ps ≤ greatest (step B W ps id)
   unfolding step greatest
-  greatest-never-falls id = go (accepts B W ps id)
+  greatest_never_falls id = go (accepts B W ps id)
     where
       go : (b : Bool) → greatest ps ≤ greatest (cond b (position_after B ps id ∷ ps) ps)
       go true = omega arith
@@ -59,14 +59,14 @@ no_position_ever_twice B W ps [] d = d
 no_position_ever_twice B W ps (id ∷ ids) d = no_position_ever_twice B W (step B W ps id) ids (go (accepts B W ps id) refl)
   where
     go : (b : Bool) → accepts B W ps id ≡ b → Distinct (step B W ps id)
-    go true e = subst⁻¹ Distinct (step-new B W ps id e) (no-position-twice B W ps id e, d)
-    go false e = subst⁻¹ Distinct (step-old B W ps id e) d
+    go true e = subst⁻¹ Distinct (step_new B W ps id e) (no_position_twice B W ps id e, d)
+    go false e = subst⁻¹ Distinct (step_old B W ps id e) d
 
 -- Over a whole history the greatest position never falls.
 pub greatest_never_falls_ever : (B W : ℕ) (ps : List ℕ) (ids : List ℕ) → greatest ps ≤ greatest (accepted B W ps ids)
 unfolding accepted
 greatest_never_falls_ever B W ps [] = le_refl (greatest ps)
-greatest_never_falls_ever B W ps (id ∷ ids) = le_trans (greatest-never-falls B W ps id) (greatest_never_falls_ever B W (step B W ps id) ids)
+greatest_never_falls_ever B W ps (id ∷ ids) = le_trans (greatest_never_falls B W ps id) (greatest_never_falls_ever B W (step B W ps id) ids)
 
 -- What was accepted stays accepted.
 pub accepted_stays : (B W : ℕ) (ps : List ℕ) (ids : List ℕ) (p : ℕ) → member p ps ≡ true → member p (accepted B W ps ids) ≡ true
@@ -80,44 +80,44 @@ accepted_stays B W ps (id ∷ ids) p h = accepted_stays B W (step B W ps id) ids
 
 module _ (B W : ℕ) (fits : Fits B W) (ps : List ℕ) (p : ℕ) (was : member p ps ≡ true) where
   -- An id that was accepted is a duplicate while the greatest position is at most B past its earlier one.
-  pub still-duplicate : greatest ps ≤ p + B → accepts B W ps (p % 2 ^ 32) ≡ false
+  pub still_duplicate : greatest ps ≤ p + B → accepts B W ps (p % 2 ^ 32) ≡ false
   unfolding accepts
-  still-duplicate l =
-      ap (is_new_position W ps) (position_heard B ps (p % 2 ^ 32) p p was (refl, omega arith, omega (arith, member_under p ps was))) ∙ new-never W ps p was
+  still_duplicate l =
+      ap (is_new_position W ps) (position_heard B ps (p % 2 ^ 32) p p was (refl, omega arith, omega (arith, member_under p ps was))) ∙ new_never W ps p was
 
   -- It comes back as new only after the greatest position has gone at least B + 1 past its earlier one.
-  pub new-again-only-after : accepts B W ps (p % 2 ^ 32) ≡ true → p + B + 1 ≤ greatest ps
-  new-again-only-after e = go (dec_le (p + B + 1) (greatest ps))
+  pub new_again_only_after : accepts B W ps (p % 2 ^ 32) ≡ true → p + B + 1 ≤ greatest ps
+  new_again_only_after e = go (dec_le (p + B + 1) (greatest ps))
     where
       go : Dec (p + B + 1 ≤ greatest ps) → p + B + 1 ≤ greatest ps
       go (yes l) = l
-      go (no l) = absurd (true≢false (sym e ∙ still-duplicate (omega arith)))
+      go (no l) = absurd (true≢false (sym e ∙ still_duplicate (omega arith)))
 
   -- And there it does come back.
-  pub new-again : p + B + 1 ≡ greatest ps → B + 1 < 2 ^ 32 → accepts B W ps (p % 2 ^ 32) ≡ true
+  pub new_again : p + B + 1 ≡ greatest ps → B + 1 < 2 ^ 32 → accepts B W ps (p % 2 ^ 32) ≡ true
   unfolding accepts
-  new-again e l =
+  new_again e l =
       ap (is_new_position W ps) (position_heard B ps (p % 2 ^ 32) (p + 2 ^ 32) p was (omega arith))
-      ∙ new-above W ps (p + 2 ^ 32) (omega arith)
+      ∙ new_above W ps (p + 2 ^ 32) (omega arith)
 
 -- ---- a row, over B and W
 
 module _ (B W : ℕ) (row : Row) (id : ℕ) where
   -- A duplicate changes nothing: the row is as it was, bits that stand for no mark included.
-  pub duplicate-changes-nothing : (rolled_at B W row id).verdict ≡ Duplicate → (rolled_at B W row id).row ≡ row
-  duplicate-changes-nothing = either B W row id (λ r. r.verdict ≡ Duplicate → r.row ≡ row) (λ h m l e. absurd (true≢false (ap heard_new e))) (λ e. refl)
+  pub duplicate_changes_nothing : (rolled_at B W row id).verdict ≡ Duplicate → (rolled_at B W row id).row ≡ row
+  duplicate_changes_nothing = either B W row id (λ r. r.verdict ≡ Duplicate → r.row ≡ row) (λ h m l e. absurd (true≢false (ap heard_new e))) (λ e. refl)
 
   -- Bits that stand for no mark are clear once the row changes.
-  pub stray-bits-go : (rolled_at B W row id).verdict ≡ New → (rolled_at B W row id).row.marks < 2 ^ W
-  stray-bits-go = either B W row id (λ r. r.verdict ≡ New → r.row.marks < 2 ^ W) (λ h m l e. l) (λ e. absurd (true≢false (sym (ap heard_new e))))
+  pub stray_bits_go : (rolled_at B W row id).verdict ≡ New → (rolled_at B W row id).row.marks < 2 ^ W
+  stray_bits_go = either B W row id (λ r. r.verdict ≡ New → r.row.marks < 2 ^ W) (λ h m l e. l) (λ e. absurd (true≢false (sym (ap heard_new e))))
 
   -- The row keeps its name.
-  pub name-stays : ((rolled_at B W row id).row.node ≡ row.node) × ((rolled_at B W row id).row.key ≡ row.key)
-  name-stays = either B W row id (λ r. (r.row.node ≡ row.node) × (r.row.key ≡ row.key)) (λ h m l. (refl, refl)) (refl, refl)
+  pub name_stays : ((rolled_at B W row id).row.node ≡ row.node) × ((rolled_at B W row id).row.key ≡ row.key)
+  name_stays = either B W row id (λ r. (r.row.node ≡ row.node) × (r.row.key ≡ row.key)) (λ h m l. (refl, refl)) (refl, refl)
 
   -- A row not in use takes the message as its first, under the name it carries and whatever else stands in it.
-  pub first-under-its-name : Fits B W → row.used ≡ false → id < 2 ^ 32 → rolled_at B W row id ≡ record { verdict = New; row = opened row.node row.key id }
-  first-under-its-name = row_first row id
+  pub first_under_its_name : Fits B W → row.used ≡ false → id < 2 ^ 32 → rolled_at B W row id ≡ record { verdict = New; row = opened row.node row.key id }
+  first_under_its_name = row_first row id
 
 -- Mark k + 1, bit k, is set exactly when the greatest position less k + 1 is in the list that the row shows.
 pub mark_says : (W : ℕ) (row : Row) (p : ℕ) (ps : List ℕ) → Shows W row (p ∷ ps) → (k : ℕ) → k < W → bit_at row.marks k ≡ member (greatest (p ∷ ps) - suc k) (p ∷ ps)
@@ -129,20 +129,20 @@ module _ {B W : ℕ} (fits : Fits B W) (row : Row) (u : row.used ≡ true) (lh :
   arrives = record { fits = fits; keeps = keeps_row fits row u lh; small = ld; around = w }
 
   -- An id ahead, or further behind than B, becomes the highest, and the marks move up as far.
-  pub ahead-moves : 0 < d → d + B < 2 ^ 32 → rolled_at B W row id ≡ taken row id (bit_or (row.marks * 2 ^ d) (2 ^ (d - 1)) % 2 ^ W)
-  ahead-moves z l = row_new row id (outcome-ahead arrives z l)
+  pub ahead_moves : 0 < d → d + B < 2 ^ 32 → rolled_at B W row id ≡ taken row id (bit_or (row.marks * 2 ^ d) (2 ^ (d - 1)) % 2 ^ W)
+  ahead_moves z l = row_new row id (outcome_ahead arrives z l)
 
   -- An id behind the marks, and no further behind than B, is a duplicate.
-  pub behind-the-marks : 2 ^ 32 ≤ d + B → d + W < 2 ^ 32 → rolled_at B W row id ≡ again row
-  behind-the-marks l o = row_old row id (outcome-old arrives l o)
+  pub behind_the_marks : 2 ^ 32 ≤ d + B → d + W < 2 ^ 32 → rolled_at B W row id ≡ again row
+  behind_the_marks l o = row_old row id (outcome_old arrives l o)
 
   -- The id k + 1 below the highest is new exactly when its mark, bit k, is clear.
-  pub mark-decides : (k : ℕ) → k < W → d + suc k ≡ 2 ^ 32 → (rolled_at B W row id).verdict ≡ verdict_of (not (bit_at row.marks k))
-  mark-decides k lk e = go (bit_at row.marks k) refl
+  pub mark_decides : (k : ℕ) → k < W → d + suc k ≡ 2 ^ 32 → (rolled_at B W row id).verdict ≡ verdict_of (not (bit_at row.marks k))
+  mark_decides k lk e = go (bit_at row.marks k) refl
     where
       go : (b : Bool) → bit_at row.marks k ≡ b → (rolled_at B W row id).verdict ≡ verdict_of (not b)
-      go true t = ap (λ (r : Rolled). r.verdict) (row_old row id (outcome-marked arrives k e lk t))
-      go false t = ap (λ (r : Rolled). r.verdict) (row_new row id (outcome-filled arrives k e lk t))
+      go true t = ap (λ (r : Rolled). r.verdict) (row_old row id (outcome_marked arrives k e lk t))
+      go false t = ap (λ (r : Rolled). r.verdict) (row_new row id (outcome_filled arrives k e lk t))
 
 -- Bits that stand for no mark count as clear: without them the verdict is the same, and so is the row where it changes.
 pub stray_bits_count_as_clear : (B W : ℕ) (row : Row) (id : ℕ)
@@ -163,31 +163,31 @@ stray_bits_count_as_clear B W row id =
 -- ---- the history of one row, over B and W, by any function that rolls the rows of a key as the rule does
 module _ {B W : ℕ} {roll : Row → ℕ → Rolled} {key : ℕ} (r : Rolls B W roll key) where
   -- From any row handed in, whatever its name and its bits: it follows the rule on the full list, which starts at its own.
-  pub history-of-a-row : (row : Row) → row.key ≡ key → row.highest < 2 ^ 32 → (ids : List ℕ) → Ids ids → Follows B W roll row (list_of W row) ids
-  history-of-a-row row e l ids h =
+  pub history_of_a_row : (row : Row) → row.key ≡ key → row.highest < 2 ^ 32 → (ids : List ℕ) → Ids ids → Follows B W roll row (list_of W row) ids
+  history_of_a_row row e l ids h =
       let on = history r (subst (λ (k : ℕ). Stands W k row (list_of W row)) e (stands_own r.fits row l)) ids h in
       (on.0, on.1.shows)
 
   -- From its first id n: it follows the rule on the list that starts at n + 2^32, and the full list gives the whole row.
-  pub history-from-the-first-id : (node n : ℕ) → n < 2 ^ 32 → (ids : List ℕ) → Ids ids
+  pub history_from_the_first_id : (node n : ℕ) → n < 2 ^ 32 → (ids : List ℕ) → Ids ids
       → let full : List ℕ = accepted B W ((n + 2 ^ 32) ∷ []) ids in
       Follows B W roll (opened node key n) ((n + 2 ^ 32) ∷ []) ids × (row_after roll (opened node key n) ids ≡ row_in_use node key (greatest full % 2 ^ 32) (marks_number W full))
-  history-from-the-first-id node n l ids h =
+  history_from_the_first_id node n l ids h =
       let on = history r (stands_opened r.fits node key n l) ids h in
-      ((on.0, on.1.shows), whole-along r node n l ids h)
+      ((on.0, on.1.shows), whole_along r node n l ids h)
 
   -- An id that a row took as new is a duplicate after any further ids, while the greatest position is at most B past its own.
-  pub taken-once : {row : Row} {ps : List ℕ} → Stands W key row ps → (id : ℕ) → id < 2 ^ 32 → (ids : List ℕ) → Ids ids
+  pub taken_once : {row : Row} {ps : List ℕ} → Stands W key row ps → (id : ℕ) → id < 2 ^ 32 → (ids : List ℕ) → Ids ids
       → (roll row id).verdict ≡ New
       → greatest (accepted B W (step B W ps id) ids) ≤ position_after B ps id + B
       → let later : Row = row_after roll (roll row id).row ids in roll later id ≡ again later
-  taken-once {row} {ps} s id l ids h new near =
+  taken_once {row} {ps} s id l ids h new near =
       let p : ℕ = position_after B ps id in
       let full : List ℕ = accepted B W (step B W ps id) ids in
       let was : member p full ≡ true =
-      accepted_stays B W (step B W ps id) ids p (ap (member p) (step-new B W ps id (was-accepted r s id l new)) ∙ member_here p p ps refl) in
+      accepted_stays B W (step B W ps id) ids p (ap (member p) (step_new B W ps id (was_accepted r s id l new)) ∙ member_here p p ps refl) in
       refused r (history r (stands_on r s id l) ids h).1 id l
-      (ap (accepts B W full) (sym (position_id B ps id l)) ∙ still-duplicate B W r.fits full p was near)
+      (ap (accepts B W full) (sym (position_id B ps id l)) ∙ still_duplicate B W r.fits full p was near)
 
 -- ---- the gateway's rows
 
@@ -216,40 +216,40 @@ encrypted_gateway key n = record { fits = omega arith; same = λ row id e. encry
 
 module _ (row : Row) (id : ℕ) where
   -- A duplicate changes nothing.
-  pub gateway-duplicate-changes-nothing : (rolled_of row id).verdict ≡ Duplicate → (rolled_of row id).row ≡ row
+  pub gateway_duplicate_changes_nothing : (rolled_of row id).verdict ≡ Duplicate → (rolled_of row id).row ≡ row
   unfolding rolled_of
-  gateway-duplicate-changes-nothing = duplicate-changes-nothing (behind_of row.key) marks_held row id
+  gateway_duplicate_changes_nothing = duplicate_changes_nothing (behind_of row.key) marks_held row id
 
   -- Bit 15 counts as clear, and is clear once the row changes.
-  pub gateway-stray-bit : ((rolled_of row id).verdict ≡ (rolled_of (cleared marks_held row) id).verdict) × ((rolled_of row id).verdict ≡ New → (rolled_of row id).row.marks < 2 ^ marks_held)
+  pub gateway_stray_bit : ((rolled_of row id).verdict ≡ (rolled_of (cleared marks_held row) id).verdict) × ((rolled_of row id).verdict ≡ New → (rolled_of row id).row.marks < 2 ^ marks_held)
   unfolding rolled_of
-  gateway-stray-bit = ((stray_bits_count_as_clear (behind_of row.key) marks_held row id).0, stray-bits-go (behind_of row.key) marks_held row id)
+  gateway_stray_bit = ((stray_bits_count_as_clear (behind_of row.key) marks_held row id).0, stray_bits_go (behind_of row.key) marks_held row id)
 
   -- A row not in use is opened at the id, under the name it carries.
-  pub gateway-first-under-its-name : row.used ≡ false → id < 2 ^ 32 → rolled_of row id ≡ record { verdict = New; row = opened row.node row.key id }
+  pub gateway_first_under_its_name : row.used ≡ false → id < 2 ^ 32 → rolled_of row id ≡ record { verdict = New; row = opened row.node row.key id }
   unfolding rolled_of
-  gateway-first-under-its-name = first-under-its-name (behind_of row.key) marks_held row id (fits_gateway row.key)
+  gateway_first_under_its_name = first_under_its_name (behind_of row.key) marks_held row id (fits_gateway row.key)
 
 module _ (row : Row) (u : row.used ≡ true) (plain : row.key ≡ 0) (lh : row.highest < 2 ^ 32) (id : ℕ) (l : id < 2 ^ 32) where
   -- For a plain id 15 behind the highest its mark, the fifteenth, decides.
-  pub plain-id-15-behind : (id + 15) % 2 ^ 32 ≡ row.highest → (rolled_of row id).verdict ≡ verdict_of (not (bit_at row.marks 14))
-  plain-id-15-behind e =
+  pub plain_id_15_behind : (id + 15) % 2 ^ 32 ≡ row.highest → (rolled_of row id).verdict ≡ verdict_of (not (bit_at row.marks 14))
+  plain_id_15_behind e =
       ap (λ (r : Rolled). r.verdict) (plain_row row id plain)
-      ∙ mark-decides {B = 15} {W = marks_held} (omega arith) row u lh id (2 ^ 32 - 15) (omega arith) (omega arith) 14 (omega arith) (omega arith)
+      ∙ mark_decides {B = 15} {W = marks_held} (omega arith) row u lh id (2 ^ 32 - 15) (omega arith) (omega arith) 14 (omega arith) (omega arith)
 
   -- A plain id further behind than the marks becomes the highest, as one ahead does: d is the way forward to it.
-  pub plain-id-elsewhere-moves : (d : ℕ) → 0 < d → d + 15 < 2 ^ 32 → (d + row.highest) % 2 ^ 32 ≡ id
+  pub plain_id_elsewhere_moves : (d : ℕ) → 0 < d → d + 15 < 2 ^ 32 → (d + row.highest) % 2 ^ 32 ≡ id
       → rolled_of row id ≡ taken row id (bit_or (row.marks * 2 ^ d) (2 ^ (d - 1)) % 2 ^ marks_held)
-  plain-id-elsewhere-moves d z o w =
-      plain_row row id plain ∙ ahead-moves {B = 15} {W = marks_held} (omega arith) row u lh id d (omega arith) w z o
+  plain_id_elsewhere_moves d z o w =
+      plain_row row id plain ∙ ahead_moves {B = 15} {W = marks_held} (omega arith) row u lh id d (omega arith) w z o
 
 -- The history of a row of the gateway, from any row handed in.
 pub gateway_history_of_a_row : (row : Row) → row.highest < 2 ^ 32 → (ids : List ℕ) → Ids ids → Follows (behind_of row.key) marks_held rolled_of row (list_of marks_held row) ids
-gateway_history_of_a_row row = history-of-a-row (gateway row.key) row refl
+gateway_history_of_a_row row = history_of_a_row (gateway row.key) row refl
 
 -- The same from its first id.
 pub gateway_history_from_the_first_id : (node key n : ℕ) → n < 2 ^ 32 → (ids : List ℕ) → Ids ids → Follows (behind_of key) marks_held rolled_of (opened node key n) ((n + 2 ^ 32) ∷ []) ids
-gateway_history_from_the_first_id node key n l ids h = (history-from-the-first-id (gateway key) node n l ids h).0
+gateway_history_from_the_first_id node key n l ids h = (history_from_the_first_id (gateway key) node n l ids h).0
 
 -- The full list of a row never holds a position twice.
 pub gateway_no_position_twice : (row : Row) (ids : List ℕ) → Distinct (accepted (behind_of row.key) marks_held (list_of marks_held row) ids)
@@ -258,15 +258,15 @@ gateway_no_position_twice row ids = no_position_ever_twice (behind_of row.key) m
 -- `Stands`: the row shows the list ps, as it does after any messages; p is a position in it.
 module _ {key : ℕ} (n : key ≡ 0 → ⊥) {row : Row} {ps : List ℕ} (s : Stands marks_held key row ps) (p : ℕ) (was : member p ps ≡ true) where
   -- An encrypted id comes back as new only after the greatest position has gone at least 2^31 + 1 past its earlier one.
-  pub encrypted-new-again-only-after : (rolled_of row (p % 2 ^ 32)).verdict ≡ New → p + 2 ^ 31 + 1 ≤ greatest ps
-  encrypted-new-again-only-after e =
-      new-again-only-after (2 ^ 31) marks_held (encrypted_gateway key n).fits ps p was
-      (was-accepted (encrypted_gateway key n) s (p % 2 ^ 32) (omega arith) e)
+  pub encrypted_new_again_only_after : (rolled_of row (p % 2 ^ 32)).verdict ≡ New → p + 2 ^ 31 + 1 ≤ greatest ps
+  encrypted_new_again_only_after e =
+      new_again_only_after (2 ^ 31) marks_held (encrypted_gateway key n).fits ps p was
+      (was_accepted (encrypted_gateway key n) s (p % 2 ^ 32) (omega arith) e)
 
   -- At 2^31 past it, it is still a duplicate.
-  pub encrypted-still-duplicate : greatest ps ≤ p + 2 ^ 31 → rolled_of row (p % 2 ^ 32) ≡ again row
-  encrypted-still-duplicate l =
-      refused (encrypted_gateway key n) s (p % 2 ^ 32) (omega arith) (still-duplicate (2 ^ 31) marks_held (encrypted_gateway key n).fits ps p was l)
+  pub encrypted_still_duplicate : greatest ps ≤ p + 2 ^ 31 → rolled_of row (p % 2 ^ 32) ≡ again row
+  encrypted_still_duplicate l =
+      refused (encrypted_gateway key n) s (p % 2 ^ 32) (omega arith) (still_duplicate (2 ^ 31) marks_held (encrypted_gateway key n).fits ps p was l)
 
 -- The fault that started this project: a held-back old report within 2^31 that was accepted once is never new again. A row handed in, with
 -- whatever stands in it, takes the ids `before`, then the report as new, then the ids `after`; the report arrives again while the greatest
@@ -281,4 +281,4 @@ pub held_back_old_report_is_never_new_again : (row : Row) → (row.key ≡ 0 →
     → rolled_of late report ≡ again late
 held_back_old_report_is_never_new_again row n l before hb report lr after ha =
     let r = encrypted_gateway row.key n in
-    taken-once r (history r (stands_own r.fits row l) before hb).1 report lr after ha
+    taken_once r (history r (stands_own r.fits row l) before hb).1 report lr after ha

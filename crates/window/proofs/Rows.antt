@@ -10,10 +10,10 @@ use Rattle.window.specs.declared.Rolled.{Rolled}
 use Rattle.window.specs.declared.windows.Heard.{Heard}
 use Rattle.window.specs.declared.windows.Heard.TheVariants.{New, Duplicate}
 use Rattle.window.proofs.Bits.{number_lt}
-use Rattle.window.proofs.Lists.{marked-out, marked_distinct}
+use Rattle.window.proofs.Lists.{marked_out, marked_distinct}
 use Rattle.window.proofs.Positions.{Fits}
 use Rattle.window.proofs.Marks.{Keeps, Outcome, outcome_first}
-use Rattle.window.proofs.Hearing.{own_in, window-used, window-free, keeps_own_in, keeps_window}
+use Rattle.window.proofs.Hearing.{own_in, window_used, window_free, keeps_own_in, keeps_window}
 
 -- the gateway's numbers are such as the laws ask for
 pub fits_gateway : (key : ℕ) → Fits (behind_of key) marks_held
@@ -40,13 +40,13 @@ abbrev pub own : ℕ → Row → List ℕ
 own W row = own_in W (window_of row)
 
 module _ (W : ℕ) (row : Row) where
-  pub list-used : row.used ≡ true → list_of W row ≡ own W row
+  pub list_used : row.used ≡ true → list_of W row ≡ own W row
   unfolding list_of
-  list-used = window-used W (window_of row)
+  list_used = window_used W (window_of row)
 
-  pub list-free : row.used ≡ false → list_of W row ≡ []
+  pub list_free : row.used ≡ false → list_of W row ≡ []
   unfolding list_of
-  list-free = window-free W (window_of row)
+  list_free = window_free W (window_of row)
 
 -- its highest id and its marks keep it
 pub keeps_own : {B W : ℕ} → Fits B W → (row : Row) → row.highest < 2 ^ 32 → Keeps W (own W row) row.highest row.marks
@@ -65,7 +65,7 @@ list_distinct {B} {W} fits row = go row.used
     M = row.highest + 2 ^ 32
 
     go : (b : Bool) → Distinct (cond b (own W row) [])
-    go true = (marked-out row.marks M W M (λ k h e. omega arith), marked_distinct row.marks M W (omega arith))
+    go true = (marked_out row.marks M W M (λ k h e. omega arith), marked_distinct row.marks M W (omega arith))
     go false = tt
 
 -- ---- what rolling it comes to
@@ -80,7 +80,7 @@ module _ {B W : ℕ} (row : Row) (id : ℕ) where
 
   pub row_first : Fits B W → row.used ≡ false → id < 2 ^ 32 → rolled_at B W row id ≡ taken row id 0
   row_first fits u l =
-      row_new (subst⁻¹ (λ (ps : List ℕ). Outcome B W ps id true id 0) (list-free W row u) (outcome_first B W id fits l))
+      row_new (subst⁻¹ (λ (ps : List ℕ). Outcome B W ps id true id 0) (list_free W row u) (outcome_first B W id fits l))
 
 -- a property of what rolling gives holds if it holds of a row taken, whose marks have no other bits, and of the row as it was
 pub either : (B W : ℕ) (row : Row) (id : ℕ) (P : Rolled → Type 0) → ((h m : ℕ) → m < 2 ^ W → P (taken row h m)) → P (again row) → P (rolled_at B W row id)

@@ -14,7 +14,7 @@ use Rattle.message.specs.declared.answers.Writing.{Writing}
 use Rattle.message.specs.declared.answers.Writing.TheVariants.{Written}
 use Rattle.reply.specs.Steps.{acknowledging_order}
 use Rattle.reply.specs.Acknowledgement.{acknowledgement_of, zeros, acknowledgement_bytes, acknowledging}
-use Rattle.reply.proofs.Steps.{judged-is}
+use Rattle.reply.proofs.Steps.{judged_is}
 use Rattle.writer.proofs.Stored.{Storable, storable, run_lands}
 
 pub length_zeros : (n : ℕ) → length (zeros n) ≡ n
@@ -25,7 +25,7 @@ length_zeros (suc n) = ap suc (length_zeros n)
 pub bare_storable : (own sender id : ℕ) (m : Message) (room : ℕ) {value : Message} {answer : Writing} {n : ℕ} → value ≡ acknowledgement_of own sender id m
     → answer ≡ writing (first (acknowledging_order value room)) (total value []) → answer ≡ Written n → Storable value [] (zeros (check_length value)) room n
 unfolding acknowledging
-bare_storable own sender id m room is by e = storable (judged-is own sender id m room is by ∙ ap (λ (v : Message). acknowledging v room) (sym is)) e
+bare_storable own sender id m room is by e = storable (judged_is own sender id m room is by ∙ ap (λ (v : Message). acknowledging v room) (sym is)) e
 
 -- its head and its blank check from the front of a buffer
 pub lands : {value same : Message} {n : ℕ} {buffer : List ℕ} (old : List ℕ) → value ≡ same → Storable value [] (zeros (check_length value)) (length old) n

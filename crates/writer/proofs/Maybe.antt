@@ -15,14 +15,14 @@ pub room_there : {b : Bool} (old : List ℕ) (at w : ℕ) → b ≡ true → at 
 room_there old at w e h = subst (λ (k : Bool). at + only k w ≤ length old) e h
 
 module _ (bytes : ℕ → ℕ → List ℕ) (old : List ℕ) (at w x : ℕ) where
-  pub put-there : {b : Bool} {last : List ℕ} → length (bytes w x) ≡ w → b ≡ true → at + only b w ≤ length old
+  pub put_there : {b : Bool} {last : List ℕ} → length (bytes w x) ≡ w → b ≡ true → at + only b w ≤ length old
       → last ≡ placed (bytes w x) (take (at + w - at) (drop at old))
       → (at + w ≡ at + only b w) × (take at old ++ (last ++ drop (at + w - at) (drop at old)) ≡ sets old at (bytes (only b w) x))
-  put-there {b} {last} l e h p =
+  put_there {b} {last} l e h p =
       subst (λ (k : Bool). (at + w ≡ at + only k w) × (take at old ++ (last ++ drop (at + w - at) (drop at old)) ≡ sets old at (bytes (only k w) x))) (sym e)
       (refl, place_put old (bytes w x) last at w l (room_there old at w e h) p)
 
-  pub put-absent : {b : Bool} → b ≡ false → bytes 0 x ≡ [] → (at ≡ at + only b w) × (old ≡ sets old at (bytes (only b w) x))
-  put-absent e z =
+  pub put_absent : {b : Bool} → b ≡ false → bytes 0 x ≡ [] → (at ≡ at + only b w) × (old ≡ sets old at (bytes (only b w) x))
+  put_absent e z =
       subst (λ (k : Bool). (at ≡ at + only k w) × (old ≡ sets old at (bytes (only k w) x))) (sym e)
       (sym (add-zero at), ap (λ (v : List ℕ). sets old at v) (sym z))

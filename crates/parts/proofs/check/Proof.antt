@@ -11,28 +11,28 @@ use Rattle.parts.proofs.check.Statement.{statement}
 use Rattle.parts.proofs.check.Tie as tie
 
 sub_start : tie.Need-overflow-sub-start
-sub_start c = let f = leb-true (c.before.before.before.before.reading.given.0.1.0.length + c.before.before.check-length.result) (length c.before.before.before.before.before.before.before.args.bytes.now) (so c.before.fit.ensures c.if1.true) in omega arith
+sub_start c = let f = leb-true (c.before.before.before.before.reading.given.0.1.0.length + c.before.before.check_length_lem.result) (length c.before.before.before.before.before.before.before.args.bytes.now) (so c.before.fit.ensures c.if1.true) in omega arith
 
 sub_result : tie.Need-overflow-sub-result
-sub_result c = let f = leb-true (c.before.before.before.before.reading.given.0.1.0.length + c.before.before.check-length.result) (length c.before.before.before.before.before.before.before.args.bytes.now) (so c.before.fit.ensures c.if1.true) in omega arith
+sub_result c = let f = leb-true (c.before.before.before.before.reading.given.0.1.0.length + c.before.before.check_length_lem.result) (length c.before.before.before.before.before.before.before.args.bytes.now) (so c.before.fit.ensures c.if1.true) in omega arith
 
 part_result_start : tie.Need-slice-bounds-result-start
-part_result_start c = let f = leb-true (c.before.before.before.before.reading.given.0.1.0.length + c.before.before.check-length.result) (length c.before.before.before.before.before.before.before.args.bytes.now) (so c.before.fit.ensures c.if1.true) in omega arith
+part_result_start c = let f = leb-true (c.before.before.before.before.reading.given.0.1.0.length + c.before.before.check_length_lem.result) (length c.before.before.before.before.before.before.before.args.bytes.now) (so c.before.fit.ensures c.if1.true) in omega arith
 
 part_result_end : tie.Need-slice-bounds-result-end
-part_result_end c = let f = leb-true (c.before.before.before.before.reading.given.0.1.0.length + c.before.before.check-length.result) (length c.before.before.before.before.before.before.before.args.bytes.now) (so c.before.fit.ensures c.if1.true) in omega arith
+part_result_end c = let f = leb-true (c.before.before.before.before.reading.given.0.1.0.length + c.before.before.check_length_lem.result) (length c.before.before.before.before.before.before.before.args.bytes.now) (so c.before.fit.ensures c.if1.true) in omega arith
 
 returns : tie.Need-returns
 unfolding check_of
 returns c =
     let bytes = c.before.before.before.before.before.before.before.before.args.bytes.now in
-    let n = c.before.before.before.check-length.result in
-    simp (c.before.before.before.before.before.reading.given.1, ← c.before.before.before.check-length.ensures.0, so c.before.before.fit.ensures c.before.if1.true)
+    let n = c.before.before.before.check_length_lem.result in
+    simp (c.before.before.before.before.before.reading.given.1, ← c.before.before.before.check_length_lem.ensures.0, so c.before.before.fit.ensures c.before.if1.true)
     (take_all (length bytes - (length bytes - n)) (drop (length bytes - n) bytes) (simp length-drop (omega arith)))
 
 returns-2 : tie.Need-returns-2
 unfolding check_of
-returns-2 c = simp (c.before.before.before.before.before.reading.given.1, ← c.before.before.before.check-length.ensures.0, so c.before.before.fit.ensures c.before.if1.false)
+returns-2 c = simp (c.before.before.before.before.before.reading.given.1, ← c.before.before.before.check_length_lem.ensures.0, so c.before.before.fit.ensures c.before.if1.false)
 
 returns-3 : tie.Need-returns-3
 unfolding check_of

@@ -10,24 +10,24 @@ use Rattle.parts.proofs.payload.Statement.{statement}
 use Rattle.parts.proofs.payload.Tie as tie
 
 sub_end : tie.Need-overflow-sub-end
-sub_end c = let f = leb-true (c.before.before.before.before.reading.given.0.1.0.length + c.before.before.check-length.result) (length c.before.before.before.before.before.before.before.args.bytes.now) (so c.before.fit.ensures c.if1.true) in omega arith
+sub_end c = let f = leb-true (c.before.before.before.before.reading.given.0.1.0.length + c.before.before.check_length_lem.result) (length c.before.before.before.before.before.before.before.args.bytes.now) (so c.before.fit.ensures c.if1.true) in omega arith
 
 sub_result : tie.Need-overflow-sub-result
-sub_result c = let f = leb-true (c.before.before.before.before.reading.given.0.1.0.length + c.before.before.check-length.result) (length c.before.before.before.before.before.before.before.args.bytes.now) (so c.before.fit.ensures c.if1.true) in omega arith
+sub_result c = let f = leb-true (c.before.before.before.before.reading.given.0.1.0.length + c.before.before.check_length_lem.result) (length c.before.before.before.before.before.before.before.args.bytes.now) (so c.before.fit.ensures c.if1.true) in omega arith
 
 part_result_start : tie.Need-slice-bounds-result-start
-part_result_start c = let f = leb-true (c.before.before.before.before.reading.given.0.1.0.length + c.before.before.check-length.result) (length c.before.before.before.before.before.before.before.args.bytes.now) (so c.before.fit.ensures c.if1.true) in omega arith
+part_result_start c = let f = leb-true (c.before.before.before.before.reading.given.0.1.0.length + c.before.before.check_length_lem.result) (length c.before.before.before.before.before.before.before.args.bytes.now) (so c.before.fit.ensures c.if1.true) in omega arith
 
 part_result_end : tie.Need-slice-bounds-result-end
-part_result_end c = let f = leb-true (c.before.before.before.before.reading.given.0.1.0.length + c.before.before.check-length.result) (length c.before.before.before.before.before.before.before.args.bytes.now) (so c.before.fit.ensures c.if1.true) in omega arith
+part_result_end c = let f = leb-true (c.before.before.before.before.reading.given.0.1.0.length + c.before.before.check_length_lem.result) (length c.before.before.before.before.before.before.before.args.bytes.now) (so c.before.fit.ensures c.if1.true) in omega arith
 
 returns : tie.Need-returns
 unfolding payload_of
-returns c = simp (c.before.before.before.before.before.reading.given.1, ← c.before.before.before.check-length.ensures.0, so c.before.before.fit.ensures c.before.if1.true)
+returns c = simp (c.before.before.before.before.before.reading.given.1, ← c.before.before.before.check_length_lem.ensures.0, so c.before.before.fit.ensures c.before.if1.true)
 
 returns-2 : tie.Need-returns-2
 unfolding payload_of
-returns-2 c = simp (c.before.before.before.before.before.reading.given.1, ← c.before.before.before.check-length.ensures.0, so c.before.before.fit.ensures c.before.if1.false)
+returns-2 c = simp (c.before.before.before.before.before.reading.given.1, ← c.before.before.before.check_length_lem.ensures.0, so c.before.before.fit.ensures c.before.if1.false)
 
 returns-3 : tie.Need-returns-3
 unfolding payload_of

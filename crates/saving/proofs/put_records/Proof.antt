@@ -6,7 +6,7 @@ use native.Mathlib.Omega.{arith}
 use borrow.Author.Rules.{rules}
 use Rattle.table.specs.Table.{rows, kept}
 use Rattle.records.specs.Saving.{records_of}
-use Rattle.saving.proofs.Loops.{Written, room_for, write-used, write-free, written_as, written_all, written_length, written_small}
+use Rattle.saving.proofs.Loops.{Written, room_for, write_used, write_free, written_as, written_all, written_length, written_small}
 use Rattle.saving.proofs.put_records.Statement.{statement}
 use Rattle.saving.proofs.put_records.Tie as tie
 
@@ -41,8 +41,8 @@ loop_again c =
     let l = c.before.before.before.loop in
     let row = c.before.row_at in
     ⊎_elim
-    (λ w. written_as t old _ _ _ _ _ w.5 w.6 (write-used t old l.out l.number l.at row.result (search rules) row.ensures l.invariant c.before.before.before.before.before.requires w.2.last.0 w.0.taken w.2.ensures))
-    (λ w. written_as t old _ _ _ _ _ w.1 w.2 (write-free t old l.out l.number l.at row.result (search rules) row.ensures l.invariant c.before.before.before.before.before.requires w.0.left))
+    (λ w. written_as t old _ _ _ _ _ w.5 w.6 (write_used t old l.out l.number l.at row.result (search rules) row.ensures l.invariant c.before.before.before.before.before.requires w.2.last.0 w.0.taken w.2.ensures))
+    (λ w. written_as t old _ _ _ _ _ w.1 w.2 (write_free t old l.out l.number l.at row.result (search rules) row.ensures l.invariant c.before.before.before.before.before.requires w.0.left))
     c.if1.branch
 
 same_length : tie.Need-same-length invariant-loop decreases-loop

@@ -5,7 +5,7 @@ use mathlib.Core.Logic.{⊎_elim}
 use native.Mathlib.Omega.{arith}
 use borrow.Author.Rules.{rules}
 use Rattle.table.specs.Table.{rows, kept}
-use Rattle.saving.proofs.Loops.{Counted, count-used, count-free, counted_most, counted_all}
+use Rattle.saving.proofs.Loops.{Counted, count_used, count_free, counted_most, counted_all}
 use Rattle.saving.proofs.rows_in_use.Statement.{statement}
 use Rattle.saving.proofs.rows_in_use.Tie as tie
 
@@ -28,8 +28,8 @@ loop_again c =
     let l = c.before.before.before.loop in
     let row = c.before.row_at in
     ⊎_elim
-    (λ w. subst⁻¹ (Counted t (l.number + 1)) w.1 (count-used t l.number l.count row.result (search rules) row.ensures l.invariant w.0.taken))
-    (λ w. subst⁻¹ (Counted t (l.number + 1)) w.1 (count-free t l.number l.count row.result (search rules) row.ensures l.invariant w.0.left))
+    (λ w. subst⁻¹ (Counted t (l.number + 1)) w.1 (count_used t l.number l.count row.result (search rules) row.ensures l.invariant w.0.taken))
+    (λ w. subst⁻¹ (Counted t (l.number + 1)) w.1 (count_free t l.number l.count row.result (search rules) row.ensures l.invariant w.0.left))
     c.if1.branch
 
 returns : tie.Need-returns invariant-loop decreases-loop

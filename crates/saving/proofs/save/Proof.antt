@@ -4,12 +4,12 @@ use lib.ListN.{length}
 use lib.Seq.{length-sets}
 use borrow.Author.Rules.{rules}
 use Rattle.records.specs.Saving.{saved_bytes}
-use Rattle.saving.proofs.Loops.{saves-not, has_room, saves}
+use Rattle.saving.proofs.Loops.{saves_not, has_room, saves}
 use Rattle.saving.proofs.save.Statement.{statement}
 use Rattle.saving.proofs.save.Tie as tie
 
 returns : tie.Need-returns
-returns c = saves-not c.before.before.before.args.table.now c.before.before.before.args.out.now c.before.lacks-room.result c.before.lacks-room.ensures c.if1.true
+returns c = saves_not c.before.before.before.args.table.now c.before.before.before.args.out.now c.before.lacks-room.result c.before.lacks-room.ensures c.if1.true
 
 put-records-requires : tie.Need-put-records-requires
 put-records-requires c κs = has_room c.before.before.before.before.args.table.now c.before.before.before.before.args.out.now c.before.before.lacks-room.result c.before.before.lacks-room.ensures c.before.if1.false

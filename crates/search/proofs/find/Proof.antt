@@ -3,7 +3,7 @@ use Prim.Native.Nat.{◌-◌}
 use native.Mathlib.Omega.{arith}
 use borrow.Author.Rules.{rules}
 use Rattle.table.specs.Table.{rows, row_of, named, find_of}
-use Rattle.table.proofs.Least.{Tried, tried-none, tried-all, tried-one, tried-till}
+use Rattle.table.proofs.Least.{Tried, tried_none, tried_all, tried_one, tried_till}
 use Rattle.search.proofs.find.Statement.{statement}
 use Rattle.search.proofs.find.Tie as tie
 
@@ -14,15 +14,15 @@ abbrev decreases-loop : tie.decreases-loop
 decreases-loop table node key number₀ number = rows - number
 
 loop_again : tie.Need-loop-preserved invariant-loop decreases-loop
-loop_again c = tried-one _ _ _ _ c.before.before.before.loop.invariant (omega arith) c.before.is-named.ensures c.if2.false
+loop_again c = tried_one _ _ _ _ c.before.before.before.loop.invariant (omega arith) c.before.is-named.ensures c.if2.false
 
 returns : tie.Need-returns invariant-loop decreases-loop
 unfolding find_of
-returns c = tried-all _ _ _ c.before.loop.invariant (omega arith)
+returns c = tried_all _ _ _ c.before.loop.invariant (omega arith)
 
 returns-2 : tie.Need-returns-2 invariant-loop decreases-loop
 unfolding find_of
-returns-2 c = tried-till _ _ _ _ c.before.before.before.loop.invariant (omega arith) c.before.is-named.ensures c.if2.true
+returns-2 c = tried_till _ _ _ _ c.before.before.before.loop.invariant (omega arith) c.before.is-named.ensures c.if2.true
 
 pub find_spec : {M : Type 1} → statement M
 find_spec =
@@ -30,7 +30,7 @@ find_spec =
     (tie.spec
     invariant-loop
     decreases-loop
-    (λ c. tried-none _ _)
+    (λ c. tried_none _ _)
     (λ c κs. search rules)
     (λ c. search rules)
     (λ c. search rules)

@@ -8,7 +8,7 @@ use borrow.Author.Rules.{rules}
 use Rattle.window.specs.Windows.{most_marks}
 use Rattle.widths.specs.Trial.{ids_of, verdicts_with, new_among, tally_of}
 use Rattle.widths.proofs.Recorded.{ids_length}
-use Rattle.widths.proofs.Passed.{past-found, found_most, told}
+use Rattle.widths.proofs.Passed.{past_found, found_most, told}
 use Rattle.widths.proofs.count.Statement.{statement}
 use Rattle.widths.proofs.count.Tie as tie
 
@@ -24,7 +24,7 @@ module _ (c : tie.After-pass) where
   lesser = ⊎_elim (λ w. w.1 ∙ omega (arith, w.0.taken)) (λ w. w.1 ∙ omega (arith, w.0.left)) c.before.if1.branch
 
   found : new_among (verdicts_with held (ids_of bytes)) + c.pass.result.past ≡ c.pass.result.new
-  found = past-found held held (ids_of bytes) c.pass.result c.pass.ensures (omega (arith, lesser))
+  found = past_found held held (ids_of bytes) c.pass.result c.pass.ensures (omega (arith, lesser))
 
 sub_tallied : tie.Need-overflow-sub-tallied
 sub_tallied c = omega (arith, found c.before)

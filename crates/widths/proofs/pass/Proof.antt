@@ -14,7 +14,7 @@ use Rattle.widths.specs.Trial.{ids_of}
 use Rattle.widths.specs.Runs.{window_in}
 use Rattle.widths.specs.declared.Run.{Run}
 use Rattle.widths.proofs.Recorded.{ids_none, ids_on}
-use Rattle.widths.proofs.Running.{Left, left-first, left_on, left-none, ran_once}
+use Rattle.widths.proofs.Running.{Left, left_first, left_on, left_none, ran_once}
 use Rattle.widths.proofs.pass.Statement.{statement}
 use Rattle.widths.proofs.pass.Tie as tie
 
@@ -28,7 +28,7 @@ decreases-loop few more bytes end run₀ at₀ run at = end - at
 loop_holds : tie.Need-loop-init invariant-loop decreases-loop
 loop_holds c =
     let a = c.before.args in
-    (omega arith, omega arith, omega arith, omega arith, omega arith, left-first a.few a.more (ids_of a.ids.now) _ refl refl refl refl refl)
+    (omega arith, omega arith, omega arith, omega arith, omega arith, left_first a.few a.more (ids_of a.ids.now) _ refl refl refl refl refl)
 
 after-requires : tie.Need-after-requires invariant-loop decreases-loop
 after-requires c κs =
@@ -67,7 +67,7 @@ returns c =
     let bytes : List ℕ = a.ids.now in
     let d = length-drop l.at bytes in
     let none : ids_of (drop l.at bytes) ≡ [] = ids_none (drop l.at bytes) (omega (arith, c.loop-test.false)) in
-    left-none a.few a.more (ids_of bytes) l.run _ none l.invariant.5
+    left_none a.few a.more (ids_of bytes) l.run _ none l.invariant.5
 
 pub pass_spec : {M : Type 1} → statement M
 pass_spec =

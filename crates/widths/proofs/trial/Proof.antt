@@ -9,7 +9,7 @@ use Rattle.widths.specs.Trial.{ids_of, verdicts_with, new_among}
 use Rattle.widths.specs.declared.Tried.TheVariants.{Counted}
 use Rattle.widths.proofs.Least.{least_is}
 use Rattle.widths.proofs.Recorded.{ids_length, decided}
-use Rattle.widths.proofs.Passed.{past-found, beyond-found, found_most, told}
+use Rattle.widths.proofs.Passed.{past_found, beyond_found, found_most, told}
 use Rattle.widths.proofs.trial.Statement.{statement}
 use Rattle.widths.proofs.trial.Tie as tie
 
@@ -19,10 +19,10 @@ module _ (c : tie.After-pass) where
   bytes = c.before.before.before.args.ids.now
 
   few : new_among (verdicts_with 15 (ids_of bytes)) + c.pass.result.past ≡ c.pass.result.new
-  few = past-found 15 31 (ids_of bytes) c.pass.result c.pass.ensures (omega arith)
+  few = past_found 15 31 (ids_of bytes) c.pass.result c.pass.ensures (omega arith)
 
   more : new_among (verdicts_with 31 (ids_of bytes)) + c.pass.result.beyond ≡ c.pass.result.new
-  more = beyond-found 15 31 (ids_of bytes) c.pass.result c.pass.ensures (omega arith)
+  more = beyond_found 15 31 (ids_of bytes) c.pass.result c.pass.ensures (omega arith)
 
 returns : tie.Need-returns
 returns c = sym (decided c.before.before.args.ids.now true c.if1.true)

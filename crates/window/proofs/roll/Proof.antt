@@ -48,9 +48,9 @@ use Rattle.window.proofs.Rolled.TheLaws as N'
 use Rattle.window.specs.contracts.Verdict as J
 use Rattle.window.proofs.Verdict.TheLaws as J'
 use Rattle.window.specs.contracts.Row.rolled as rolled
-use Rattle.window.proofs.Row.rolled.Symbol as rolled-def
+use Rattle.window.proofs.Row.rolled.Symbol as rolled_def
 use Rattle.window.proofs.Row.rolled.Symbol.{name as #rolled}
-use Rattle.window.proofs.Row.rolled.Met as rolled-thm
+use Rattle.window.proofs.Row.rolled.Met as rolled_thm
 use Rattle.window.specs.contracts.roll.Key.{name as #roll}
 use Rattle.window.specs.contracts.roll as roll
 use Rattle.window.proofs.roll.Statement as stated
@@ -161,4 +161,4 @@ roll_spec 𝓤 𝓛 𝓜 𝓡 =
     entered 𝓤 𝓛.H (triple_of 𝓛 roll.signature (roll.spec 𝓛 𝓜.mem 𝓡.run))
     (tables 𝓤 𝓛.H 𝓜 𝓡 code.env).C (tables 𝓤 𝓛.H 𝓜 𝓡 code.env).Λ #roll code.function (code.unfolded 𝓤 𝓛.H 𝓜 𝓡)
     (roll_meets 𝓛 𝓜.mem 𝓡.run (tables_of 𝓤 𝓛.H 𝓜 (tables 𝓤 𝓛.H 𝓜 𝓡 code.env))
-    (cited 𝓤 𝓛.H (Rolling 𝓛 𝓜.mem 𝓡.run) 𝓜 𝓡 code.env #rolled rolled-def.routine code.calls-window::Row::rolled (rolled-thm.met 𝓤 𝓛 𝓜 𝓡)))
+    (cited 𝓤 𝓛.H (Rolling 𝓛 𝓜.mem 𝓡.run) 𝓜 𝓡 code.env #rolled rolled_def.routine code.calls-window::Row::rolled (rolled_thm.met 𝓤 𝓛 𝓜 𝓡)))

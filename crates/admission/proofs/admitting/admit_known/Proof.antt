@@ -5,7 +5,7 @@ use Rattle.reply.specs.Acknowledgement.{acknowledgement_of}
 use Rattle.window.specs.declared.Verdict.{Verdict}
 use Rattle.message.proofs.Logic.{so}
 use Rattle.admission.specs.Admission.{with_verdict}
-use Rattle.admission.proofs.Orders.{unanswered, is-planned, settles}
+use Rattle.admission.proofs.Orders.{unanswered, is_planned, settles}
 use Rattle.admission.proofs.Places.{rolls}
 use Rattle.table.proofs.Ids.{rolled_ids_put}
 use Rattle.table.proofs.Words.{put_within}
@@ -21,7 +21,7 @@ returns-2 c =
     let a = c.before.before.before.before.before.before.before.before.before.before.before.before.before.before.before.args in
     let pre = c.before.before.before.before.before.before.before.before.before.before.before.before.before.before.before.requires in
     let value = acknowledgement_of a.own a.sender a.id a.m in
-    let p = is-planned value (length a.out.now) a.sender a.m a.head a.table.now _ (so c.before.before.before.before.before.before.before.before.before.before.before.before.acknowledge.ensures.0 c.before.before.before.before.before.before.before.before.answer2.given.1) in
+    let p = is_planned value (length a.out.now) a.sender a.m a.head a.table.now _ (so c.before.before.before.before.before.before.before.before.before.before.before.before.acknowledge.ensures.0 c.before.before.before.before.before.before.before.before.answer2.given.1) in
     let r = rolls _ _ _ _ _ _ _ pre.0 pre.1 c.before.before.before.before.before.row_Under.ensures c.before.before.before.before.rolled.ensures in
     settles value a.sender a.m a.head a.table.now a.out.now _ p _ _ _ _ _ r.0 r.1 pre.1 (sym (ap (λ (v : Verdict). with_verdict v a.m a.head c.before.before.before.before.before.before.before.before.answer2.given.0.0) c.before.before.enum_told.given.1))
     (c.put-ids.ensures ∙ rolled_ids_put _ _ _ _ _ _ _ pre.0 pre.1 c.before.before.before.before.before.row_Under.ensures c.before.before.before.before.rolled.ensures ∙ put_within _ _ _ pre.1) c.before.before.before.before.before.before.before.before.before.before.before.before.acknowledge.ensures.1
@@ -31,7 +31,7 @@ returns-3 c =
     let a = c.before.before.before.before.before.before.before.before.before.before.before.before.before.args in
     let pre = c.before.before.before.before.before.before.before.before.before.before.before.before.before.requires in
     let value = acknowledgement_of a.own a.sender a.id a.m in
-    let p = is-planned value (length a.out.now) a.sender a.m a.head a.table.now _ (so c.before.before.before.before.before.before.before.before.before.before.acknowledge.ensures.0 c.before.before.before.before.before.before.answer2.given.1) in
+    let p = is_planned value (length a.out.now) a.sender a.m a.head a.table.now _ (so c.before.before.before.before.before.before.before.before.before.before.acknowledge.ensures.0 c.before.before.before.before.before.before.answer2.given.1) in
     let r = rolls _ _ _ _ _ _ _ pre.0 pre.1 c.before.before.before.row_Under.ensures c.before.before.rolled.ensures in
     settles value a.sender a.m a.head a.table.now a.out.now _ p _ _ _ _ _ r.0 r.1 pre.1 (sym (ap (λ (v : Verdict). with_verdict v a.m a.head c.before.before.before.before.before.before.answer2.given.0.0) c.enum-told2.given.1)) refl
     c.before.before.before.before.before.before.before.before.before.before.acknowledge.ensures.1

@@ -5,7 +5,7 @@ use Rattle.judge.proofs.judging.is_long.Statement.{statement}
 use Rattle.judge.proofs.judging.is_long.Tie as tie
 
 returns : tie.Need-returns
-returns c = room_left _ _ c.before.head-length.ensures c.check-length.ensures
+returns c = room_left _ _ c.before.head-length.ensures c.check_length_lem.ensures
 
 pub is_long_spec : {M : Type 1} → statement M
 is_long_spec =

@@ -6,7 +6,7 @@ use Rattle.judge.proofs.judging.is_stray.Tie as tie
 
 returns : tie.Need-returns
 unfolding stray
-returns c = simp (c.before.before.stray-address.ensures, c.before.stray-exchange.ensures, c.check-length.ensures.0)
+returns c = simp (c.before.before.stray-address.ensures, c.before.stray-exchange.ensures, c.check_length_lem.ensures.0)
 
 pub is_stray_spec : {M : Type 1} → statement M
 is_stray_spec =

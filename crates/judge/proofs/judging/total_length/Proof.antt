@@ -6,7 +6,7 @@ use Rattle.judge.proofs.judging.total_length.Tie as tie
 
 returns : tie.Need-returns
 unfolding total
-returns c = simp (c.before.head-length.ensures.0, c.check-length.ensures.0)
+returns c = simp (c.before.head-length.ensures.0, c.check_length_lem.ensures.0)
 
 pub total_length_spec : {M : Type 1} → statement M
 total_length_spec =

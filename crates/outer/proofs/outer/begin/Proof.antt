@@ -13,7 +13,7 @@ use Rattle.message.specs.Value.{bit, header, address_of}
 use Rattle.message.specs.Refusals.{too_long, address_order}
 use Rattle.outer.specs.Steps.{header_order, fixed_at, field_at}
 use Rattle.outer.specs.declared.outer.Begun.TheVariants.{Address, Refused}
-use Rattle.outer.proofs.Begun.{begun_long, begun_short, begun-header, begun-fixed, begun-address, begun-whole}
+use Rattle.outer.proofs.Begun.{begun_long, begun_short, begun_header, begun_fixed, begun_address, begun_whole}
 use borrow.Author.Rules.{rules}
 use Rattle.outer.proofs.outer.begin.Statement.{statement}
 use Rattle.outer.proofs.outer.begin.Tie as tie
@@ -60,7 +60,7 @@ returns-3 c =
     let b = t.before.before.before.before in
     c.refused3.ensures
     ∙ ap (λ (n : ℕ). Refused (refusal n)) r
-    ∙ sym (begun-header _ (long b.before) (short b) (λ e. t.if3.true (r ∙ e)))
+    ∙ sym (begun_header _ (long b.before) (short b) (λ e. t.if3.true (r ∙ e)))
 
 returns-4 : tie.Need-returns-4
 returns-4 c =
@@ -68,7 +68,7 @@ returns-4 c =
     let p = t.before.before in
     let b = p.before.before.before.before in
     c.refused4.ensures
-    ∙ sym (begun-fixed _ (long b.before) (short b) (passed p) (rw (fixed t.before) at (lt-ltb _ _ t.if4.true)))
+    ∙ sym (begun_fixed _ (long b.before) (short b) (passed p) (rw (fixed t.before) at (lt-ltb _ _ t.if4.true)))
 
 returns-5 : tie.Need-returns-5
 returns-5 c =
@@ -79,14 +79,14 @@ returns-5 c =
     let b = p.before.before.before.before in
     c.refused5.ensures
     ∙ ap₂ (λ (n k : ℕ). Refused (record { number = n; offset = k })) r (c.before.field_at.ensures ∙ ap₂ (λ (n h : ℕ). field_at n (bit h 9) (bit h 8)) r (head p.before.before))
-    ∙ sym (begun-address _ (long b.before) (short b) (passed p) (there f) (λ e. t.if5.true (r ∙ e)))
+    ∙ sym (begun_address _ (long b.before) (short b) (passed p) (there f) (λ e. t.if5.true (r ∙ e)))
 
 returns-6 : tie.Need-returns-6
 returns-6 c =
     let f = c.before.before.before in
     let p = f.before.before in
     let b = p.before.before.before.before in
-    ap Address (value c.before.before) ∙ sym (begun-whole _ (long b.before) (short b) (passed p) (there f) (sym (by_address c.before) ∙ c.if5.false))
+    ap Address (value c.before.before) ∙ sym (begun_whole _ (long b.before) (short b) (passed p) (there f) (sym (by_address c.before) ∙ c.if5.false))
 
 pub begin_spec : {M : Type 1} → statement M
 begin_spec =

@@ -9,7 +9,7 @@ use Rattle.message.proofs.Logic.{so}
 use Rattle.message.specs.Layout.{body_of}
 use Rattle.message.specs.declared.answers.Reading.TheVariants.{Refused}
 use Rattle.reader.specs.Steps.{finished}
-use Rattle.reader.proofs.Steps.{exchange-header, exchange-asks, exchange-fields}
+use Rattle.reader.proofs.Steps.{exchange_header_lem, exchange_asks, exchange_fields}
 use borrow.Author.Rules.{rules}
 use Rattle.reader.proofs.reading.read_exchange.Statement.{statement}
 use Rattle.reader.proofs.reading.read_exchange.Tie as tie
@@ -30,7 +30,7 @@ returns c =
     let v = b.before.before.before.before.before.args in
     ap (finished v.m) c.refused.ensures
     ∙ ap (λ (i : ℕ). Refused (record { number = 10; offset = i })) b.before.before.before.body_of.ensures.0
-    ∙ sym (exchange-header v.bytes.now v.m _ (header b.before) (so b.bad-exchange.ensures c.before.if1.true))
+    ∙ sym (exchange_header_lem v.bytes.now v.m _ (header b.before) (so b.bad-exchange.ensures c.before.if1.true))
 
 returns-2 : tie.Need-returns-2
 returns-2 c =
@@ -39,7 +39,7 @@ returns-2 c =
     let v = b.before.before.before.before.before.args in
     ap (finished v.m) c.refused2.ensures
     ∙ ap (λ (i : ℕ). Refused (record { number = 11; offset = i })) b.before.before.before.body_of.ensures.0
-    ∙ sym (exchange-asks v.bytes.now v.m _ (header b.before) (so b.bad-exchange.ensures o.before.if1.false) (so o.old-asks.ensures c.before.if2.true))
+    ∙ sym (exchange_asks v.bytes.now v.m _ (header b.before) (so b.bad-exchange.ensures o.before.if1.false) (so o.old-asks.ensures c.before.if2.true))
 
 read-fields-requires : tie.Need-read-fields-requires
 read-fields-requires c κs =
@@ -53,7 +53,7 @@ returns-3 c =
     let b = o.before.before in
     let v = b.before.before.before.before.before.args in
     c.read-fields.ensures
-    ∙ sym (exchange-fields v.bytes.now v.m _ (header b.before) (so b.bad-exchange.ensures o.before.if1.false) (so o.old-asks.ensures c.before.if2.false))
+    ∙ sym (exchange_fields v.bytes.now v.m _ (header b.before) (so b.bad-exchange.ensures o.before.if1.false) (so o.old-asks.ensures c.before.if2.false))
 
 pub read_exchange_spec : {M : Type 1} → statement M
 read_exchange_spec =

@@ -14,7 +14,7 @@ use Rattle.reader.specs.Steps.{exchanged, exchange_at, finished}
 use Rattle.reader.specs.declared.reading.Exchange.{Exchange}
 use Rattle.reader.specs.declared.reading.Rest.TheVariants.{Fields}
 use Rattle.reader.proofs.Flags.{general_taken}
-use Rattle.reader.proofs.Steps.{fields-bare, fields-lack, fields-whole}
+use Rattle.reader.proofs.Steps.{fields_bare, fields_lack, fields_whole}
 use borrow.Author.Rules.{rules}
 use Rattle.reader.proofs.reading.read_fields.Statement.{statement}
 use Rattle.reader.proofs.reading.read_fields.Tie as tie
@@ -42,20 +42,20 @@ returns c =
     let v = c.before.before.before.args in
     let a = ap {B = ℕ} (λ (b : Bool). only b 4) (ne_eqb _ _ c.before.if1.true) in
     taken v.m v.bytes.now v.x v.at _ _ p.0 p.1 p.2 c.fields_at.ensures (omega (arith, p.1))
-    ∙ sym (fields-bare v.bytes.now v.m _ p.2 refl (flag v.x _ _ v.bytes.now _ p.0 p.1 (ne_eqb _ _ c.before.if1.true)))
+    ∙ sym (fields_bare v.bytes.now v.m _ p.2 refl (flag v.x _ _ v.bytes.now _ p.0 p.1 (ne_eqb _ _ c.before.if1.true)))
 
 returns-2 : tie.Need-returns-2
 returns-2 c =
     let p = c.before.before.before.before.before.requires in
     let v = c.before.before.before.before.before.args in
     ap (finished v.m) c.refused.ensures
-    ∙ sym (fields-lack v.bytes.now v.m _ p.2 refl (flag v.x _ _ v.bytes.now _ p.0 p.1 (eq-eqb _ _ c.before.before.before.if1.false)) (omega (arith, c.before.if2.true, c.before.before.check-length.ensures.0, p.1)))
+    ∙ sym (fields_lack v.bytes.now v.m _ p.2 refl (flag v.x _ _ v.bytes.now _ p.0 p.1 (eq-eqb _ _ c.before.before.before.if1.false)) (omega (arith, c.before.if2.true, c.before.before.check_length_lem.ensures.0, p.1)))
 
 fields-at-requires-2 : tie.Need-fields-at-requires-2
 fields-at-requires-2 c κs =
     let p = c.before.before.before.before.requires in
     let a = ap {B = ℕ} (λ (b : Bool). only b 4) (eq-eqb _ _ c.before.before.if1.false) in
-    (p.0, omega (arith, p.1, c.if2.false, c.before.check-length.ensures.0))
+    (p.0, omega (arith, p.1, c.if2.false, c.before.check_length_lem.ensures.0))
 
 returns-3 : tie.Need-returns-3
 returns-3 c =
@@ -63,7 +63,7 @@ returns-3 c =
     let v = c.before.before.before.before.before.args in
     let a = ap {B = ℕ} (λ (b : Bool). only b 4) (eq-eqb _ _ c.before.before.before.if1.false) in
     taken v.m v.bytes.now v.x v.at _ _ p.0 p.1 p.2 c.fields-at2.ensures (omega (arith, p.1))
-    ∙ sym (fields-whole v.bytes.now v.m _ p.2 refl (flag v.x _ _ v.bytes.now _ p.0 p.1 (eq-eqb _ _ c.before.before.before.if1.false)) (omega (arith, c.before.if2.false, c.before.before.check-length.ensures.0, p.1)))
+    ∙ sym (fields_whole v.bytes.now v.m _ p.2 refl (flag v.x _ _ v.bytes.now _ p.0 p.1 (eq-eqb _ _ c.before.before.before.if1.false)) (omega (arith, c.before.if2.false, c.before.before.check_length_lem.ensures.0, p.1)))
 
 pub read_fields_spec : {M : Type 1} → statement M
 read_fields_spec =

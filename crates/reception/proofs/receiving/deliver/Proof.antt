@@ -2,7 +2,7 @@
 use mathlib.Core.Path.{refl}
 use Rattle.message.proofs.Logic.{so}
 use Rattle.admission.proofs.Orders.{refuses_all}
-use Rattle.reception.proofs.Orders.{not-delivered, delivers}
+use Rattle.reception.proofs.Orders.{not_delivered, delivers}
 use borrow.Author.Rules.{rules}
 use Rattle.reception.proofs.receiving.deliver.Statement.{statement}
 use Rattle.reception.proofs.receiving.deliver.Tie as tie
@@ -13,7 +13,7 @@ delivery-refusal-requires c κs = (c.sender-of.ensures, c.before.before.requires
 returns : tie.Need-returns
 returns c =
     let n = c.before.before.delivery-refusal.ensures in
-    refuses_all _ _ _ _ _ _ _ _ _ c.before.if1.true (not-delivered _ _ c.before.before.before.before.before.args.head _ _ c.before.if1.true n) c.refused.ensures
+    refuses_all _ _ _ _ _ _ _ _ _ c.before.if1.true (not_delivered _ _ c.before.before.before.before.before.args.head _ _ c.before.if1.true n) c.refused.ensures
 
 returns-2 : tie.Need-returns-2
 returns-2 c =

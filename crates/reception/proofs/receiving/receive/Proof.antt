@@ -3,14 +3,14 @@ use mathlib.Core.Path.{refl, sym, ◌∙◌}
 use borrow.Author.Rules.{rules}
 use Rattle.message.proofs.Logic.{so}
 use Rattle.reader.proofs.Clear.{taken}
-use Rattle.reception.proofs.Orders.{own-refused, not-read, is_read, receives, receives-none}
+use Rattle.reception.proofs.Orders.{own_refused, not_read, is_read, receives, receives_none}
 use Rattle.reception.proofs.receiving.receive.Statement.{statement}
 use Rattle.reception.proofs.receiving.receive.Tie as tie
 
 returns : tie.Need-returns
 returns c =
     let e = c.refused.ensures in
-    receives-none _ _ _ _ _ _ e (e ∙ own-refused _ _ _ (so c.before.before.is-nobody.ensures c.before.if1.true))
+    receives_none _ _ _ _ _ _ e (e ∙ own_refused _ _ _ (so c.before.before.is-nobody.ensures c.before.if1.true))
 
 returns-2 : tie.Need-returns-2
 returns-2 c =
@@ -21,8 +21,8 @@ returns-2 c =
 
 returns-3 : tie.Need-returns-3
 returns-3 c =
-    receives-none _ _ _ _ _ _ refl
-    (not-read _ _ _ (so c.before.before.before.before.before.is-nobody.ensures c.before.before.before.before.if1.false) _ (so c.before.before.before.read.ensures c.before.reading2.given.1))
+    receives_none _ _ _ _ _ _ refl
+    (not_read _ _ _ (so c.before.before.before.before.before.is-nobody.ensures c.before.before.before.before.if1.false) _ (so c.before.before.before.read.ensures c.before.reading2.given.1))
 
 deliver-requires : tie.Need-deliver-requires
 deliver-requires c κs = (taken _ _ (so c.before.before.before.before.before.read.ensures c.before.before.before.reading.given.1)).1.outer.source

@@ -33,14 +33,14 @@ returns-3 : tie.Need-returns-3
 unfolding acknowledging_order
 returns-3 c =
     let a = c.before.before.before.before.before.before.before.args in
-    let sum : c.before.before.head-length.result + c.before.check-length.result ≡ total a.value [] = omega (arith, total_is a.value [], c.before.before.head-length.ensures.0, c.before.check-length.ensures.0) in
+    let sum : c.before.before.head-length.result + c.before.check_length_lem.result ≡ total a.value [] = omega (arith, total_is a.value [], c.before.before.head-length.ensures.0, c.before.check_length_lem.ensures.0) in
     answers (acknowledging_order a.value a.room) _ (passes (so c.before.before.before.before.before.before.bad-encrypt.ensures c.before.before.before.before.before.if1.false) (clears (address_order a.value) _ (address_numbered a.value) (so c.before.before.before.before.address-refusal.ensures c.before.before.before.if2.false) (holds (so (ap (ltb a.room) sum) (lt-ltb _ _ c.if3.true)))))
 
 returns-4 : tie.Need-returns-4
 unfolding acknowledging_order
 returns-4 c =
     let a = c.before.before.before.before.before.before.before.args in
-    let sum : c.before.before.head-length.result + c.before.check-length.result ≡ total a.value [] = omega (arith, total_is a.value [], c.before.before.head-length.ensures.0, c.before.check-length.ensures.0) in
+    let sum : c.before.before.head-length.result + c.before.check_length_lem.result ≡ total a.value [] = omega (arith, total_is a.value [], c.before.before.head-length.ensures.0, c.before.check_length_lem.ensures.0) in
     ap Written sum
     ∙ answers (acknowledging_order a.value a.room) _ (passes (so c.before.before.before.before.before.before.bad-encrypt.ensures c.before.before.before.before.before.if1.false) (clears (address_order a.value) _ (address_numbered a.value) (so c.before.before.before.before.address-refusal.ensures c.before.before.before.if2.false) (passes (so (ap (ltb a.room) sum) (le-ltb _ _ c.if3.false)) none)))
 

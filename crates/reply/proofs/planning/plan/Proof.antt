@@ -10,7 +10,7 @@ returns : tie.Need-returns
 returns c = unplanned _ _ _ (not-true _ c.if1.true)
 
 returns-2 : tie.Need-returns-2
-returns-2 c = c.with-reason.ensures ∙ planned _ _ _ _ (not-false _ c.before.before.if1.false) c.before.would-acknowledge.ensures
+returns-2 c = c.with-reason.ensures ∙ planned _ _ _ _ (not-false _ c.before.before.if1.false) c.before.would_acknowledge.ensures
 
 pub plan_spec : {M : Type 1} → statement M
 plan_spec =

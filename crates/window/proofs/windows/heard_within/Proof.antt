@@ -9,15 +9,15 @@ use Rattle.window.specs.declared.windows.Window.{Window}
 use Rattle.window.specs.declared.windows.Heard.TheVariants.{New}
 use Rattle.window.proofs.Bits.{shl_one}
 use Rattle.window.proofs.Positions.{Fits}
-use Rattle.window.proofs.Marks.{Arrival, outcome-same, outcome-ahead, outcome-past, outcome-old, outcome-marked, outcome-filled, late-ahead, late-behind}
-use Rattle.window.proofs.Hearing.{keeps_window, heard-old, heard-new, heard-first}
+use Rattle.window.proofs.Marks.{Arrival, outcome_same, outcome_ahead, outcome_past, outcome_old, outcome_marked, outcome_filled, late_ahead, late_behind}
+use Rattle.window.proofs.Hearing.{keeps_window, heard_old, heard_new_lem, heard_first}
 use Rattle.window.proofs.windows.heard_within.Statement.{statement}
 use Rattle.window.proofs.windows.heard_within.Tie as tie
 
 returns : tie.Need-returns
 returns c =
     let s = c.before.before.args in
-    sym (heard-first s.window s.id (record { window = omega arith; behind = omega arith }) (not-true s.window.used c.if1.true) (omega arith))
+    sym (heard_first s.window s.id (record { window = omega arith; behind = omega arith }) (not-true s.window.used c.if1.true) (omega arith))
 
 -- what is known once the way forward is: the id arrives at a window in use
 module _ (c : tie.After-wrapping-sub-u32) where
@@ -67,19 +67,19 @@ module _ (c : tie.After-wrapping-sub-u32) where
   above = shl_one held 64 (omega arith)
 
 returns-2 : tie.Need-returns-2
-returns-2 c = let b = c.before in sym (heard-old (window b) (id b) (outcome-same (arrives b) c.if2.true))
+returns-2 c = let b = c.before in sym (heard_old (window b) (id b) (outcome_same (arrives b) c.if2.true))
 
 returns-3 : tie.Need-returns-3
 returns-3 c =
     let b = c.before.before.before in
     let a : d b + behind b < 2 ^ 32 = omega (arith, c.before.if3.true) in
     ap (New 0 (id b)) c.shifted.ensures
-    ∙ sym (heard-new (window b) (id b) (outcome-ahead (arrives b) (omega (arith, c.before.before.if2.false)) a) (late-ahead (arrives b) a))
+    ∙ sym (heard_new_lem (window b) (id b) (outcome_ahead (arrives b) (omega (arith, c.before.before.if2.false)) a) (late_ahead (arrives b) a))
 
 returns-4 : tie.Need-returns-4
 returns-4 c =
     let b = c.before.before.before.before in
-    sym (heard-old (window b) (id b) (outcome-marked (arrives b) (bit b) (omega arith) c.before.if4.true (bit_set b c.if5.true)))
+    sym (heard_old (window b) (id b) (outcome_marked (arrives b) (bit b) (omega arith) c.before.if4.true (bit_set b c.if5.true)))
 
 rem_filled : tie.Need-nonzero-rem-filled
 rem_filled c = let b = c.before.before.before.before in omega (arith, above b, pow_pos (held b))
@@ -90,18 +90,18 @@ returns-5 c =
     let l : bit b < held b = c.before.if4.true in
     let e : d b + suc (bit b) ≡ 2 ^ 32 = omega arith in
     ap (New (bit b + 1) (window b).highest) (ap₂ (λ (x y : ℕ). bit_or (window b).marks x % y) (mark b l) (above b))
-    ∙ sym (heard-new (window b) (id b) (outcome-filled (arrives b) (bit b) e l (bit_clear b c.if5.false)) (late-behind (arrives b) (omega arith) ∙ omega arith))
+    ∙ sym (heard_new_lem (window b) (id b) (outcome_filled (arrives b) (bit b) e l (bit_clear b c.if5.false)) (late_behind (arrives b) (omega arith) ∙ omega arith))
 
 returns-6 : tie.Need-returns-6
 returns-6 c =
     let b = c.before.before.before.before in
-    sym (heard-old (window b) (id b) (outcome-old (arrives b) (omega (arith, c.if6.true)) (omega (arith, c.before.if4.false))))
+    sym (heard_old (window b) (id b) (outcome_old (arrives b) (omega (arith, c.if6.true)) (omega (arith, c.before.if4.false))))
 
 returns-7 : tie.Need-returns-7
 returns-7 c =
     let b = c.before.before.before.before in
     let a : d b + behind b < 2 ^ 32 = omega (arith, c.if6.false, c.before.before.before.if2.false) in
-    sym (heard-new (window b) (id b) (outcome-past (arrives b) (omega (arith, c.before.before.if3.false)) a) (late-ahead (arrives b) a))
+    sym (heard_new_lem (window b) (id b) (outcome_past (arrives b) (omega (arith, c.before.before.if3.false)) a) (late_ahead (arrives b) a))
 
 pub heard_within_spec : {M : Type 1} → statement M
 heard_within_spec =

@@ -11,7 +11,7 @@ use Rattle.message.proofs.Lengths.{length_head}
 use Rattle.message.proofs.Logic.{so}
 use Rattle.wire.proofs.Runs.{fronted, onward}
 use Rattle.reply.specs.Acknowledgement.{zeros}
-use Rattle.reply.proofs.Steps.{judged-is}
+use Rattle.reply.proofs.Steps.{judged_is}
 use Rattle.writer.proofs.Bare.{length_zeros, bare_storable, lands}
 use borrow.Author.Rules.{rules}
 use Rattle.writer.proofs.acknowledging.acknowledge.Statement.{statement}
@@ -39,10 +39,10 @@ returns c =
     let w1 = fronted old (head_bytes value) (head_length value) (length_head value) c.before.before.before.before.before.before.before.store-head.ensures in
     let w2 = onward [] 0 refl w1 (sym (add-zero _), refl) in
     let w3 = onward (zeros (check_length value)) (check_length value) (length_zeros (check_length value)) w2 (refl, c.before.before.store-blank.ensures) in
-    (so c.before.before.before.before.before.before.before.before.before.before.answer.given.1 (judged-is _ _ _ _ _ c.before.before.before.before.before.before.before.before.before.before.before.before.before.acknowledgement.ensures c.before.before.before.before.before.before.before.before.before.before.before.before.judged.ensures), lands old c.before.before.before.before.before.before.before.before.before.before.before.before.before.acknowledgement.ensures s w3.buffer)
+    (so c.before.before.before.before.before.before.before.before.before.before.answer.given.1 (judged_is _ _ _ _ _ c.before.before.before.before.before.before.before.before.before.before.before.before.before.acknowledgement.ensures c.before.before.before.before.before.before.before.before.before.before.before.before.judged.ensures), lands old c.before.before.before.before.before.before.before.before.before.before.before.before.before.acknowledgement.ensures s w3.buffer)
 
 returns-2 : tie.Need-returns-2
-returns-2 c = (so c.before.answer2.given.1 (judged-is _ _ _ _ _ c.before.before.before.before.acknowledgement.ensures c.before.before.before.judged.ensures), refl)
+returns-2 c = (so c.before.answer2.given.1 (judged_is _ _ _ _ _ c.before.before.before.before.acknowledgement.ensures c.before.before.before.judged.ensures), refl)
 
 pub acknowledge_spec : {M : Type 1} → statement M
 acknowledge_spec =

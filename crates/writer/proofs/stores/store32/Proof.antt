@@ -2,7 +2,7 @@
 use mathlib.Core.Path.{refl}
 use Rattle.wire.specs.Bytes.{little_bytes}
 use Rattle.wire.proofs.Digits.{length_little}
-use Rattle.writer.proofs.Maybe.{room_there, put-there, put-absent}
+use Rattle.writer.proofs.Maybe.{room_there, put_there, put_absent}
 use borrow.Author.Rules.{rules}
 use Rattle.writer.proofs.stores.store32.Statement.{statement}
 use Rattle.writer.proofs.stores.store32.Tie as tie
@@ -13,10 +13,10 @@ part_put32_end c = room_there c.before.before.args.out.now c.before.before.args.
 returns : tie.Need-returns
 returns c =
     let s = c.before.before.before.before.before.before in
-    put-there little_bytes s.args.out.now s.args.at 4 s.args.x (length_little 4 s.args.x) c.before.before.before.before.if1.true s.requires c.before.before.put32.ensures
+    put_there little_bytes s.args.out.now s.args.at 4 s.args.x (length_little 4 s.args.x) c.before.before.before.before.if1.true s.requires c.before.before.put32.ensures
 
 returns-2 : tie.Need-returns-2
-returns-2 c = put-absent little_bytes _ c.before.before.args.at 4 c.before.before.args.x c.if1.false refl
+returns-2 c = put_absent little_bytes _ c.before.before.args.at 4 c.before.before.args.x c.if1.false refl
 
 pub store32_spec : {M : Type 1} → statement M
 store32_spec =
