@@ -1,4 +1,6 @@
 // The conditions of the refusals that reading and writing share, one function each.
+#![tactic(auto)]
+
 ghost use Rattle.std.specs.Prelude.{◌≡◌, ◌+◌, ◌≤◌};
 ghost use Rattle.message.specs.Order.{first};
 ghost use Rattle.message.specs.Refusals.{bad_version, old_tunnel, bad_encrypt, bad_key_type, bad_key, nobody, bad_source, bad_destination, old_asks, bad_packet, other_length, bad_packet_length, address_order};

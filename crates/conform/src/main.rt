@@ -38,7 +38,7 @@ fn command(name: u8, text: &[u8], table: &mut [u64; WORDS]) {
 }
 
 // What comes after a command: the end, the next one, or the next one with an empty table.
-#[derive(Drop)]
+#[derive(Clone, Copy)]
 enum Next {
     End,
     Go,

@@ -11,7 +11,7 @@ use table::ROWS;
 use window::Row;
 
 // What may be wrong with a record: its mark, what its fields say, or that its name stands before it.
-#[derive(Drop)]
+#[derive(Clone, Copy)]
 enum Fault {
     Mark,
     Row,

@@ -13,7 +13,7 @@ pub const LINE: usize = 72;
 
 // What a line says of a message: new or a duplicate, with its message id; or refused, with the number
 // of the refusal and its offset.
-#[derive(Drop)]
+#[derive(Clone, Copy)]
 pub enum Said {
     New(u32),
     Duplicate(u32),
@@ -47,7 +47,7 @@ pub fn last(left: u64, out: &mut [u8; LINE]) -> usize
 
 // What a line of the trial says: a number of marks, with how many ids are new by it and how many are
 // duplicates; the least number of marks; or refused, with the number of the refusal.
-#[derive(Drop)]
+#[derive(Clone, Copy)]
 pub enum Figure {
     Marks(u32, usize, usize),
     Least(u32),

@@ -2,7 +2,7 @@
 use crate::value::Message;
 
 // Why a message, a value, a buffer or a saved table was refused.
-#[derive(Drop)]
+#[derive(Clone, Copy)]
 pub struct Refusal {
     // Its number, one of those below.
     pub number: u8,
@@ -70,35 +70,35 @@ impl Refusal {
 
 // What stands before the payload or the packet, beside the fields: the bits I, A and R as the wire has
 // them, 0 of a tunnelled message, and how many bytes it is.
-#[derive(Drop)]
+#[derive(Clone, Copy)]
 pub struct Head {
     pub flags: u8,
     pub length: usize,
 }
 
 // Of reading: the value and its head, or the refusal.
-#[derive(Drop)]
+#[derive(Clone, Copy)]
 pub enum Reading {
     Taken(Message, Head),
     Refused(Refusal),
 }
 
 // Of outer reading: where the protected part starts and how long it is, or the refusal.
-#[derive(Drop)]
+#[derive(Clone, Copy)]
 pub enum OuterReading {
     Protected(usize, usize),
     Refused(Refusal),
 }
 
 // Of writing, framing and saving: how many bytes were written, or the refusal.
-#[derive(Drop)]
+#[derive(Clone, Copy)]
 pub enum Writing {
     Written(usize),
     Refused(Refusal),
 }
 
 // Of unframing: the length of the whole message at the front, or how many bytes are still wanted.
-#[derive(Drop)]
+#[derive(Clone, Copy)]
 pub enum Unframed {
     Whole(usize),
     Incomplete(usize),

@@ -1,5 +1,7 @@
 // A message as a value: its fields, its lengths and the refusals. The bytes are read by `outer`
 // and `reader`, and written by `writer`.
+#![tactic(auto)]
+
 mod answers;
 pub mod layout;
 mod value;

@@ -7,7 +7,7 @@ use crate::layout;
 // Whether a field is present is told by the flags alone, never by the field being zero. The order is that in
 // memory: `source` lies where a refusal has its `offset`, and is as wide, so an answer, which is a value or a
 // refusal, stays in registers.
-#[derive(Drop)]
+#[derive(Clone, Copy)]
 pub struct Message {
     // 1 or 2.
     pub version: u8,

@@ -10,7 +10,7 @@ use crate::fields;
 use message::{Message, OuterReading, Refusal, layout};
 
 // The value up to the key id, its exchange fields zero; or the refusal.
-#[derive(Drop)]
+#[derive(Clone, Copy)]
 pub enum Begun {
     Address(Message),
     Refused(Refusal),

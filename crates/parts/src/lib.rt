@@ -1,5 +1,7 @@
 // The two parts of a message that are not fields, as parts of the caller's bytes. Both are empty where
 // the reading is a refusal, or is of other bytes and the parts do not fit in these.
+#![tactic(auto)]
+
 ghost use Rattle.std.specs.Prelude.{◌≡◌, ◌+◌, leb};
 ghost use Rattle.parts.specs.Parts.{payload_of, check_of};
 

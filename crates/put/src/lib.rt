@@ -1,6 +1,8 @@
 // Numbers into bytes: 2 and 4 bytes low byte first, and a node's 8 bytes high byte first. A number goes to
 // the front of a slice; its other bytes stay as they were. Where the slice has fewer
 // bytes than the number, all of it stays as it was.
+#![tactic(auto)]
+
 ghost use Rattle.std.specs.Prelude.{◌≡◌};
 ghost use Rattle.wire.specs.Bytes.{little_bytes, big_bytes, placed};
 

@@ -15,7 +15,7 @@ use outer::Begun;
 // What stands behind the key id: the exchange header and its fields, each 0 of a tunnelled message, and the
 // length of the head. The flags of both kinds of message are told from the header, so that this byte waits while
 // a message is received, and not each flag.
-#[derive(Drop)]
+#[derive(Clone, Copy)]
 struct Exchange {
     header: u8,
     kind: u8,
@@ -26,7 +26,7 @@ struct Exchange {
 }
 
 // That, or the refusal.
-#[derive(Drop)]
+#[derive(Clone, Copy)]
 enum Rest {
     Fields(Exchange),
     Refused(Refusal),

@@ -2,7 +2,7 @@
 use message::Refusal;
 
 // Done, or the refusal.
-#[derive(Drop)]
+#[derive(Clone, Copy)]
 pub enum Removed {
     Done,
     Refused(Refusal),

@@ -2,7 +2,7 @@
 use message::Refusal;
 
 // How many rows were placed, or the refusal.
-#[derive(Drop)]
+#[derive(Clone, Copy)]
 pub enum Restored {
     Placed(usize),
     Refused(Refusal),

@@ -6,7 +6,7 @@ use message::Message;
 use places::FIELDS;
 
 // The value, or that a place holds a number that its field cannot hold.
-#[derive(Drop)]
+#[derive(Clone, Copy)]
 pub enum Loaded {
     Value(Message),
     Unfit,

@@ -22,7 +22,7 @@ pub const FEW: u32 = 15;
 pub const MORE: u32 = 31;
 
 // What a number of marks makes of the ids: how many are new and how many are duplicates.
-#[derive(Drop)]
+#[derive(Clone, Copy)]
 pub struct Tally {
     pub held: u32,
     pub new: usize,
@@ -31,7 +31,7 @@ pub struct Tally {
 
 // What a trial answers: the tallies of 15, 31 and 63 marks, and the least number of marks with the verdicts of 63; or the number of the
 // refusal.
-#[derive(Drop)]
+#[derive(Clone, Copy)]
 pub enum Tried {
     Counted(Tally, Tally, Tally, u32),
     Refused(u8),
@@ -39,7 +39,7 @@ pub enum Tried {
 
 // The ids so far: their window of 63 marks, how many it found new, how many of these lay past the reach of a few marks and how many beyond
 // that of more, which would have lost them, and how far behind the farthest lay.
-#[derive(Drop)]
+#[derive(Clone, Copy)]
 struct Run {
     used: bool,
     highest: u32,

@@ -8,7 +8,7 @@ ghost use Rattle.window.specs.Rows.{again, behind_of, opened, rolled_of, taken};
 pub use windows::{Heard, Window};
 
 // What an arriving id is: new, as far as its row can tell; or heard before, or too far behind to tell.
-#[derive(Drop)]
+#[derive(Clone, Copy)]
 pub enum Verdict {
     New,
     Duplicate,
@@ -21,7 +21,7 @@ pub enum Verdict {
 //
 // In a row in use bit k - 1 of the marks says whether the id k below the highest was accepted, and `highest` itself was.
 // Bit 15 stands for no mark: it counts as clear, and is clear once the row changes. A row not in use says nothing of ids.
-#[derive(Drop)]
+#[derive(Clone, Copy)]
 pub struct Row {
     pub used: bool,
     pub node: u64,
@@ -31,7 +31,7 @@ pub struct Row {
 }
 
 // The verdict on an arriving id, and the row after it.
-#[derive(Drop)]
+#[derive(Clone, Copy)]
 pub struct Rolled {
     pub verdict: Verdict,
     pub row: Row,

@@ -13,7 +13,7 @@ use crate::Row;
 //
 // With W marks, bit k - 1 says whether the id k below the highest was accepted, and the highest itself was. Bits from W on stand for no
 // mark: they count as clear, and are clear once the window changes. A window not in use says nothing of ids.
-#[derive(Drop)]
+#[derive(Clone, Copy)]
 pub struct Window {
     pub used: bool,
     pub highest: u32,
@@ -22,7 +22,7 @@ pub struct Window {
 
 // What an arriving id is to a window: new, with how far behind the highest it lies (0 where it is ahead), and the highest id and the marks
 // after it; or a duplicate, which changes nothing.
-#[derive(Drop)]
+#[derive(Clone, Copy)]
 pub enum Heard {
     New(u32, u32, u64),
     Duplicate,

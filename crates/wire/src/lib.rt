@@ -4,6 +4,8 @@
 //
 // A caller names the place by the part that it passes, `&bytes[at..at + 4]`: the length of such a
 // part is known, so the test for it costs nothing.
+#![tactic(auto)]
+
 mod get;
 mod order;
 
