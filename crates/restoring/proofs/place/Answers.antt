@@ -1,15 +1,14 @@
 -- At each number the rows of the records before it are put, and past the last the words are zero. Assumes nothing.
 use Prim.Native.Nat.{ℕ, ◌-◌, ◌*◌, ◌≤◌}
-use mathlib.Core.Path.{◌≡◌, refl, sym, ap, ◌∙◌}
+use mathlib.Core.Path.{◌≡◌, refl, ap, ◌∙◌}
 use mathlib.Core.List.{List}
 use native.Mathlib.Omega.{arith}
 use borrow.Author.Rules.{rules}
-use lib.ListN.{length, replicate}
+use lib.ListN.{replicate}
 use lib.Seq.{sets}
 use Rattle.table.specs.Table.{rows}
 use Rattle.records.specs.Restoring.{record_count, row_from, with_rows, restored_table}
 use Rattle.records.proofs.Fronts.{record_row}
-use Rattle.records.proofs.Placed.{length_rows}
 use Rattle.restoring.proofs.Judged.{next_row}
 use Rattle.restoring.proofs.Whole.{all_put}
 use Rattle.restoring.proofs.place.Goals as goal
@@ -32,5 +31,4 @@ returns c =
     let old = c.args.table.now in
     let all : c.loop-number.number ≡ record_count bytes = omega arith in
     let put = c.loop-number.invariant.1 ∙ ap (λ (n : ℕ). with_rows n (row_from bytes) old) all in
-    let size : length old ≡ 96 = sym (ap length put ∙ length_rows (record_count bytes) (row_from bytes) old) ∙ c.clear-arg-1.given.0.1 in
-    all_put (record_count bytes) (row_from bytes) old _ c.requires size (c.clear.ensures ∙ ap (λ (t : List ℕ). sets t (3 * record_count bytes) (replicate (96 - 3 * record_count bytes) 0)) put)
+    all_put (record_count bytes) (row_from bytes) old _ c.requires c.told-table (c.clear.ensures ∙ ap (λ (t : List ℕ). sets t (3 * record_count bytes) (replicate (96 - 3 * record_count bytes) 0)) put)
