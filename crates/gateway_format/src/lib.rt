@@ -2,6 +2,8 @@
 // lent arrays. Each function gives the number of the refusal, 0 for none, and on a refusal leaves all
 // that was lent as it was, but for the offset, which a reading hands out. It is built apart from
 // `gateway`, so that the path of a received message is compiled by itself.
+#![tactic(auto)]
+
 mod messages;
 mod streams;
 
