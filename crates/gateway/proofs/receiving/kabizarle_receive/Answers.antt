@@ -14,14 +14,26 @@ pub returns-in-New : goal.returns-in-New
 returns-in-New c =
     let a = c.args in
     let d = c.receive-answer.ensures in
-    let e = so d.0 c.in-New.is in
+    let e = so d.result c.in-New.is in
     let h = header_is _ _ (as_taken_lem _ _ _ (new_was_read _ _ _ _ _ _ e)) _ c.get16-header.ensures (search rules) in
-    (sym (ap received_number e), (d.1.0, (d.1.1, (c.store.ensures ∙ with_header _ _ _ _ _ _ h ∙ sym (ap (λ (r : Received). received_after r (length a.bytes.now) a.fields.now) e), sym (ap (λ (r : Received). received_offset r a.offset.now) e)))))
+    record {
+      result = sym (ap received_number e);
+      table = d.table;
+      buffer = d.buffer;
+      fields = c.store.ensures ∙ with_header _ _ _ _ _ _ h ∙ sym (ap (λ (r : Received). received_after r (length a.bytes.now) a.fields.now) e);
+      offset = sym (ap (λ (r : Received). received_offset r a.offset.now) e);
+    }
 
 pub returns-in-Duplicate : goal.returns-in-Duplicate
 returns-in-Duplicate c =
     let a = c.args in
     let d = c.receive-answer.ensures in
-    let e = so d.0 c.in-Duplicate.is in
+    let e = so d.result c.in-Duplicate.is in
     let h = header_is _ _ (as_taken_lem _ _ _ (duplicate_was_read _ _ _ _ _ _ e)) _ c.get16-header-in-Duplicate.ensures (search rules) in
-    (sym (ap received_number e), (d.1.0, (d.1.1, (c.store-in-Duplicate.ensures ∙ with_header _ _ _ _ _ _ h ∙ sym (ap (λ (r : Received). received_after r (length a.bytes.now) a.fields.now) e), sym (ap (λ (r : Received). received_offset r a.offset.now) e)))))
+    record {
+      result = sym (ap received_number e);
+      table = d.table;
+      buffer = d.buffer;
+      fields = c.store-in-Duplicate.ensures ∙ with_header _ _ _ _ _ _ h ∙ sym (ap (λ (r : Received). received_after r (length a.bytes.now) a.fields.now) e);
+      offset = sym (ap (λ (r : Received). received_offset r a.offset.now) e);
+    }

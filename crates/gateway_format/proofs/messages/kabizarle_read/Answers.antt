@@ -15,4 +15,8 @@ returns-in-Taken c =
     let a = c.args in
     let e = so c.read-reading.ensures c.in-Taken.is in
     let h = header_is _ _ (as_taken_lem _ _ _ e) _ c.get16-header.ensures (search rules) in
-    (sym (ap reading_number e), (c.store.ensures ∙ with_header _ _ _ _ _ _ h ∙ sym (ap (λ (r : Reading). read_after r (length a.bytes.now) a.fields.now) e), sym (ap (λ (r : Reading). read_offset r a.offset.now) e)))
+    record {
+      result = sym (ap reading_number e);
+      fields = c.store.ensures ∙ with_header _ _ _ _ _ _ h ∙ sym (ap (λ (r : Reading). read_after r (length a.bytes.now) a.fields.now) e);
+      offset = sym (ap (λ (r : Reading). read_offset r a.offset.now) e);
+    }
