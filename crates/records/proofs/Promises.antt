@@ -29,7 +29,6 @@ use Rattle.message.specs.Order.{◌when◌, first}
 use Rattle.message.specs.Answers.{refusal, writing, writing_number, buffer_after}
 use Rattle.message.specs.declared.answers.Refusal.{Refusal}
 use Rattle.message.specs.declared.answers.Writing.{Writing}
-use Rattle.message.specs.declared.answers.Writing.TheVariants as Writing
 use Rattle.message.proofs.Order.{FirstToHold, number_first, first_number}
 use Rattle.message.proofs.Writings.{at_no_byte}
 use Rattle.table.specs.Table.{rows, empty_table, row_of, first_below, in_use, rows_in_use}

@@ -1,5 +1,7 @@
 // Saved rows: what saving and restoring come to, in `specs`, and one record: the row that it says, and what
 // is wrong with it. Saving is in `saving`, restoring in `restoring`, what it refuses in `faults`.
+#![tactic(auto)]
+
 mod answers;
 pub mod layout;
 

@@ -1,4 +1,6 @@
 // The search of a table for a row: by its name, and for one that is free.
+#![tactic(auto)]
+
 ghost use Rattle.std.specs.Prelude.{◌≡◌, ◌<◌};
 ghost use Rattle.table.specs.Table.{rows, row_of, named, is_free, find_of, free_of};
 

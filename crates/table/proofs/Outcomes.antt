@@ -9,7 +9,7 @@ use prog.Routine.{Routine}
 use types.Logic.{Logic}
 use contract.Monad.{Fun, conj, fact}
 use contract.Lifetimes.{Lfts}
-use denote.Ref.{Bor}
+use denote.MutBor.{MutBor}
 use denote.Triple.Clauses.{AtExit}
 use mathlib.Core.Bool.{Bool}
 use mathlib.Core.List.{List}
@@ -22,7 +22,7 @@ use Rattle.table.specs.contracts.rows.use_bit as bit
 
 module _ {M : Type 1} {𝓤 : Ura M} (𝓛 : Logic 𝓤) (at_mem : Memory → SProp 𝓤) (run : Routine → Fun 𝓤) where
   -- `put_words` leaves three words
-  pub one_put_words : (κs : Lfts 1) (three : Bor (List ℕ)) (row : Row) (r s : Unit {0}) (x y : AtExit storing.ended κs)
+  pub one_put_words : (κs : Lfts 1) (three : MutBor (List ℕ)) (row : Row) (r s : Unit {0}) (x y : AtExit storing.ended κs)
       → let allows : Unit {0} → AtExit storing.ended κs → SProp 𝓤 = λ v e. (storing.clauses 𝓛 at_mem run κs (three, (row, tt))).ensures tt v e in
       ent 𝓤 (conj 𝓤 (allows r x) (allows s y)) (fact 𝓤 (x.0.now ≡ y.0.now))
   one_put_words κs three row r s x y = both 𝓤 _ _ _ (λ e f. e ∙ sym f)

@@ -1,4 +1,6 @@
 // The rows of a table by their numbers: reading one, and putting one.
+#![tactic(auto)]
+
 ghost use Rattle.std.specs.Prelude.{◌≡◌};
 ghost use Rattle.table.specs.Table.{row_at, put_at, row_under, with_ids};
 

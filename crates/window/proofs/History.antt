@@ -10,7 +10,6 @@ use Rattle.window.specs.History.{Ids, row_after, verdicts_of, verdict_of, ruled,
 use Rattle.window.specs.declared.Row.{Row}
 use Rattle.window.specs.declared.Rolled.{Rolled}
 use Rattle.window.specs.declared.windows.Heard.{Heard}
-use Rattle.window.specs.declared.windows.Heard.TheVariants as Heard
 use Rattle.window.specs.declared.Verdict.{Verdict}
 use Rattle.window.specs.declared.Verdict.TheVariants.{New, Duplicate}
 use Rattle.window.proofs.Bits.{number_of}
@@ -141,8 +140,8 @@ module _ {B W : ℕ} {roll : Row → ℕ → Rolled} {key : ℕ} (r : Rolls B W 
       → (verdicts_of roll row ids ≡ ruled B W ps ids) × Stands W key (row_after roll row ids) (accepted B W ps ids)
   unfolding verdicts_of ruled row_after accepted
   history s [] h = (refl, s)
-  history s (id ∷ ids) h =
-      let on = history (stands_on s id h.0) ids h.1 in
+  history {row = row} {ps = ps} s (id ∷ ids) h =
+      let on = history {row = (roll row id).row} {ps = step B W ps id} (stands_on s id h.0) ids h.1 in
       ((λ i. verdict_on s id h.0 i ∷ on.0 i), on.1)
 
   -- from its first id on, a row is given whole by the full list

@@ -1,6 +1,6 @@
 -- Only one outcome fits each public contract: two that its clause allows are equal, the verdict and what a lent row holds at exit included.
 -- The laws are stated over the clauses themselves, as the source has them. Assumes nothing.
-use Rattle.std.proofs.Common.{◌≡◌, ℕ, sym, ◌∙◌, Bor}
+use Rattle.std.proofs.Common.{◌≡◌, ℕ, sym, ◌∙◌}
 use seplogic.Ra.Ura.{Ura}
 use base.Logic.{SProp, ent, via}
 use prog.Memory.{Memory}
@@ -8,6 +8,7 @@ use prog.Routine.{Routine}
 use types.Logic.{Logic}
 use contract.Monad.{Fun, conj, conj_l, conj_r, fact, fact_use, fact_mono}
 use contract.Lifetimes.{Lfts}
+use denote.MutBor.{MutBor}
 use denote.Triple.Clauses.{AtExit}
 use Rattle.window.specs.declared.windows.Window.{Window}
 use Rattle.window.specs.declared.windows.Heard.{Heard}
@@ -44,7 +45,7 @@ module _ {M : Type 1} {𝓤 : Ura M} (𝓛 : Logic 𝓤) (at_mem : Memory → SP
   one_rolled row id r s = both _ _ _ (λ e f. e ∙ sym f)
 
   -- `roll` gives one verdict, and leaves one row behind the reference
-  pub one_roll : (κs : Lfts 1) (row : Bor Row) (id : ℕ) (r s : Verdict) (x y : AtExit roll.ended κs)
+  pub one_roll : (κs : Lfts 1) (row : MutBor Row) (id : ℕ) (r s : Verdict) (x y : AtExit roll.ended κs)
       → let allows : Verdict → AtExit roll.ended κs → SProp 𝓤 = λ v e. (roll.clauses 𝓛 at_mem run κs (row, (id, tt))).ensures tt v e in
       ent 𝓤 (conj 𝓤 (allows r x) (allows s y)) (fact 𝓤 ((r ≡ s) × (x.0.now ≡ y.0.now)))
   one_roll κs row id r s x y = both _ _ _ (λ e f. (e.0 ∙ sym f.0, e.1 ∙ sym f.1))

@@ -1,5 +1,7 @@
 // One row of the reception table, and what an arriving message id does to it: the rule of positions ("Rows and verdicts"). A row is a window
 // under a name; what an id is to a window is in `windows`. The table, the search for a name and the messages themselves are not here.
+#![tactic(auto)]
+
 mod windows;
 
 ghost use Rattle.std.specs.Prelude.{◌≡◌};
