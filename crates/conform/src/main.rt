@@ -1,13 +1,16 @@
 // Makes every entry point answer to commands on standard input, one line for each: a command is a length
 // of two bytes, low byte first, and that many bytes, of which the first names it. The table is empty
 // at the start.
+#![tactic(auto)]
+
 mod body;
 mod messages;
 mod print;
 mod rows;
 mod saved;
 
-use libc::STDIN_FILENO;
+use std::io;
+use std::io::Read;
 use table::WORDS;
 
 // How many commands are answered at most.
@@ -17,24 +20,24 @@ const MOST: usize = 16_000_000;
 const EMPTY: u8 = 7;
 
 // One command: its name, its body, and the table that the commands share.
-fn command(name: u8, text: &[u8], table: &mut [u64; WORDS]) {
+fn command(rt: &impl Print, name: u8, text: &[u8], table: &mut [u64; WORDS]) -> io::Result<()> {
     match name {
-        1 => messages::read(text),
-        2 => messages::outer(text),
-        3 => messages::write(text),
-        4 => messages::unframe(text),
-        5 => messages::frame(text),
-        6 => rows::roll(text),
-        7 => print::word(b"empty"),
-        8 => rows::put(text, table),
-        9 => rows::receive(text, table),
-        10 => rows::remove(text, table),
-        11 => rows::rows(table),
-        12 => saved::save(text, table),
-        13 => saved::restore(text, table),
-        _ => messages::bad(),
+        1 => messages::read(rt, text)?,
+        2 => messages::outer(rt, text)?,
+        3 => messages::write(rt, text)?,
+        4 => messages::unframe(rt, text)?,
+        5 => messages::frame(rt, text)?,
+        6 => rows::roll(rt, text)?,
+        7 => print::word(rt, "empty")?,
+        8 => rows::put(rt, text, table)?,
+        9 => rows::receive(rt, text, table)?,
+        10 => rows::remove(rt, text, table)?,
+        11 => rows::rows(rt, table)?,
+        12 => saved::save(rt, text, table)?,
+        13 => saved::restore(rt, text, table)?,
+        _ => messages::bad(rt)?,
     }
-    print::word(b"\n");
+    print::word(rt, "\n")
 }
 
 // What comes after a command: the end, the next one, or the next one with an empty table.
@@ -50,43 +53,53 @@ fn cut(head: usize, len: usize, got: usize) -> bool {
     (head < 2) | (got < len)
 }
 
+// Reads so many bytes into the space, from its front on. Gives how many there were: fewer where the input ends.
+fn fill(input: &mut impl Read, space: &mut Vec<u8>, count: usize) -> io::Result<usize> {
+    space.clear();
+    input.by_ref().take(count as u64).read_to_end(space)
+}
+
 // Reads one command into the space and answers it.
-fn step(space: &mut [u8], table: &mut [u64; WORDS]) -> Next {
-    let head = io::read_full(STDIN_FILENO, body::part_mut(space, 2));
+fn step(
+    rt: &impl Print,
+    input: &mut impl Read,
+    space: &mut Vec<u8>,
+    table: &mut [u64; WORDS],
+) -> io::Result<Next> {
+    let head = fill(input, space, 2)?;
     if head == 0 {
-        return Next::End;
+        return Ok(Next::End);
     }
     let len = body::word(space, 0) as usize;
-    let got = io::read_full(STDIN_FILENO, body::part_mut(space, len));
+    let got = fill(input, space, len)?;
     if cut(head, len, got) {
-        print::word(b"cut\n");
-        return Next::End;
+        print::word(rt, "cut\n")?;
+        return Ok(Next::End);
     }
     let text = body::part(space, 0, len);
     let name = body::byte(text, 0);
     if len == 0 {
-        print::word(b"bad\n");
-        return Next::Go;
+        print::word(rt, "bad\n")?;
+        return Ok(Next::Go);
     }
-    command(name, body::rest(text, 1), table);
+    command(rt, name, body::rest(text, 1), table)?;
     if name == EMPTY {
-        return Next::Empty;
+        return Ok(Next::Empty);
     }
-    Next::Go
+    Ok(Next::Go)
 }
 
 // Answers commands until the input ends, or MOST of them.
-fn main() {
+fn main(rt: HostRuntime) -> io::Result<()> {
+    let mut input = rt.reader();
+    let mut space = Vec::new(rt.alloc());
     let mut table = [0u64; WORDS];
-    let mut space = io::large_buffer();
-    let mut left = MOST;
-    while 0 < left {
-        let next = step(&mut space, &mut table);
-        match next {
-            Next::End => return,
+    for _ in 0..MOST {
+        match step(&rt, &mut input, &mut space, &mut table)? {
+            Next::End => return Ok(()),
             Next::Go => {}
             Next::Empty => table = [0u64; WORDS],
         }
-        left -= 1;
     }
+    Ok(())
 }

@@ -1,6 +1,7 @@
 // The commands of the message format: READ, OUTER, WRITE, UNFRAME, FRAME.
 use crate::{body, print};
 use message::{OuterReading, Reading, Unframed, Writing};
+use std::io;
 
 // The longest buffer that a command may ask for.
 pub(crate) const ROOM: usize = 1300;
@@ -9,53 +10,58 @@ pub(crate) const ROOM: usize = 1300;
 pub(crate) const BEFORE: u8 = 0xa5;
 
 // A command that is unknown or not as it should be.
-pub(crate) fn bad() {
-    print::word(b"bad");
+pub(crate) fn bad(rt: &impl Print) -> io::Result<()> {
+    print::word(rt, "bad")
 }
 
-pub(crate) fn read(message: &[u8]) {
+pub(crate) fn read(rt: &impl Print, message: &[u8]) -> io::Result<()> {
     let reading = reader::read(message);
     match reading {
         Reading::Taken(m, _) => {
-            print::word(b"taken");
-            print::value(m);
+            print::word(rt, "taken")?;
+            print::value(rt, m)?;
         }
-        Reading::Refused(refusal) => print::refused(refusal),
+        Reading::Refused(refusal) => print::refused(rt, refusal)?,
     }
-    print::string(parts::payload(message, reading));
-    print::string(parts::check(message, reading));
+    print::string(rt, parts::payload(message, reading))?;
+    print::string(rt, parts::check(message, reading))
 }
 
-pub(crate) fn outer(message: &[u8]) {
+pub(crate) fn outer(rt: &impl Print, message: &[u8]) -> io::Result<()> {
     let reading = outer::read_outer(message);
     match reading {
         OuterReading::Protected(start, len) => {
-            print::word(b"outer");
-            print::number(start as u64);
-            print::number(len as u64);
+            print::word(rt, "outer")?;
+            print::number(rt, start as u64)?;
+            print::number(rt, len as u64)
         }
-        OuterReading::Refused(refusal) => print::refused(refusal),
+        OuterReading::Refused(refusal) => print::refused(rt, refusal),
     }
 }
 
 // What a writer answered, with a word for it where it wrote, and the buffer after it.
-pub(crate) fn written(word: &[u8], answer: Writing, buffer: &[u8]) {
+pub(crate) fn written(
+    rt: &impl Print,
+    word: &str,
+    answer: Writing,
+    buffer: &[u8],
+) -> io::Result<()> {
     match answer {
         Writing::Written(n) => {
-            print::word(word);
-            print::number(n as u64);
+            print::word(rt, word)?;
+            print::number(rt, n as u64)?;
         }
-        Writing::Refused(refusal) => print::refused(refusal),
+        Writing::Refused(refusal) => print::refused(rt, refusal)?,
     }
-    print::string(buffer);
+    print::string(rt, buffer)
 }
 
-pub(crate) fn write(command: &[u8]) {
+pub(crate) fn write(rt: &impl Print, command: &[u8]) -> io::Result<()> {
     let room = body::word(command, body::VALUE) as usize;
     let len = body::word(command, body::VALUE + 2) as usize;
     let start = body::VALUE + 4;
     if (command.len() < start + len) | (ROOM < room) {
-        return bad();
+        return bad(rt);
     }
     let payload = body::part(command, start, len);
     let check = body::rest(command, start + len);
@@ -66,27 +72,27 @@ pub(crate) fn write(command: &[u8]) {
         check,
         body::part_mut(&mut space, room),
     );
-    written(b"wrote", answer, body::part(&space, 0, room));
+    written(rt, "wrote", answer, body::part(&space, 0, room))
 }
 
-pub(crate) fn unframe(stream: &[u8]) {
+pub(crate) fn unframe(rt: &impl Print, stream: &[u8]) -> io::Result<()> {
     match stream::unframe(stream) {
-        Unframed::Whole(_) => print::word(b"message"),
+        Unframed::Whole(_) => print::word(rt, "message")?,
         Unframed::Incomplete(wanted) => {
-            print::word(b"incomplete");
-            print::number(wanted as u64);
+            print::word(rt, "incomplete")?;
+            print::number(rt, wanted as u64)?;
         }
     }
-    print::string(stream::framed_message(stream));
-    print::string(stream::framed_rest(stream));
+    print::string(rt, stream::framed_message(stream))?;
+    print::string(rt, stream::framed_rest(stream))
 }
 
-pub(crate) fn frame(command: &[u8]) {
+pub(crate) fn frame(rt: &impl Print, command: &[u8]) -> io::Result<()> {
     let room = body::word(command, 0) as usize;
     if (command.len() < 2) | (ROOM < room) {
-        return bad();
+        return bad(rt);
     }
     let mut space = [BEFORE; ROOM];
     let answer = stream::frame(body::rest(command, 2), body::part_mut(&mut space, room));
-    written(b"wrote", answer, body::part(&space, 0, room));
+    written(rt, "wrote", answer, body::part(&space, 0, room))
 }

@@ -1,8 +1,8 @@
 // The commands of rows and of the table: ROLL, PUT, RECEIVE, REMOVE, ROWS.
 use crate::messages::bad;
 use crate::{body, messages, print};
-use libc::STDOUT_FILENO;
 use reception::{Received, Removed};
+use std::io;
 use table::WORDS;
 use window::{Row, Verdict};
 
@@ -21,67 +21,67 @@ fn record(text: &[u8]) -> Row {
 }
 
 // A row's fields.
-fn shown(row: Row) {
-    print::flag(row.used);
-    print::node(row.node);
-    print::number16(row.key);
-    print::number32(row.highest);
-    print::number16(row.marks);
+fn shown(rt: &impl Print, row: Row) -> io::Result<()> {
+    print::flag(rt, row.used)?;
+    print::node(rt, row.node)?;
+    print::number16(rt, row.key)?;
+    print::number32(rt, row.highest)?;
+    print::number16(rt, row.marks)
 }
 
-fn verdict(v: Verdict) {
+fn verdict(rt: &impl Print, v: Verdict) -> io::Result<()> {
     match v {
-        Verdict::New => print::word(b"new"),
-        Verdict::Duplicate => print::word(b"duplicate"),
+        Verdict::New => print::word(rt, "new"),
+        Verdict::Duplicate => print::word(rt, "duplicate"),
     }
 }
 
-pub(crate) fn roll(command: &[u8]) {
+pub(crate) fn roll(rt: &impl Print, command: &[u8]) -> io::Result<()> {
     if command.len() < RECORD + 4 {
-        return bad();
+        return bad(rt);
     }
     let rolled = record(command).rolled(body::double(command, RECORD));
     let v = rolled.verdict;
     let row = rolled.row;
-    verdict(v);
-    shown(row);
+    verdict(rt, v)?;
+    shown(rt, row)
 }
 
-pub(crate) fn put(command: &[u8], table: &mut [u64; WORDS]) {
+pub(crate) fn put(rt: &impl Print, command: &[u8], table: &mut [u64; WORDS]) -> io::Result<()> {
     let number = body::byte(command, 0) as usize;
     if (command.len() < 1 + RECORD) | (table::ROWS <= number) {
-        return bad();
+        return bad(rt);
     }
     table_rows::put_row(table, number, record(body::rest(command, 1)));
-    print::word(b"put");
+    print::word(rt, "put")
 }
 
 // What receiving answered, and the buffer after it.
-fn received(answer: Received, buffer: &[u8]) {
+fn received(rt: &impl Print, answer: Received, buffer: &[u8]) -> io::Result<()> {
     match answer {
         Received::New(m, _, n) => {
-            print::word(b"new");
-            print::number(n as u64);
-            print::string(buffer);
-            print::value(m);
+            print::word(rt, "new")?;
+            print::number(rt, n as u64)?;
+            print::string(rt, buffer)?;
+            print::value(rt, m)
         }
         Received::Duplicate(m, _, n) => {
-            print::word(b"duplicate");
-            print::number(n as u64);
-            print::string(buffer);
-            print::value(m);
+            print::word(rt, "duplicate")?;
+            print::number(rt, n as u64)?;
+            print::string(rt, buffer)?;
+            print::value(rt, m)
         }
         Received::Refused(refusal) => {
-            print::refused(refusal);
-            print::string(buffer);
+            print::refused(rt, refusal)?;
+            print::string(rt, buffer)
         }
     }
 }
 
-pub(crate) fn receive(command: &[u8], table: &mut [u64; WORDS]) {
+pub(crate) fn receive(rt: &impl Print, command: &[u8], table: &mut [u64; WORDS]) -> io::Result<()> {
     let room = body::word(command, 21) as usize;
     if (command.len() < 23) | (messages::ROOM < room) {
-        return bad();
+        return bad(rt);
     }
     let own = body::node(command, 0);
     let link = body::node(command, 8);
@@ -97,42 +97,40 @@ pub(crate) fn receive(command: &[u8], table: &mut [u64; WORDS]) {
         table,
         body::part_mut(&mut space, room),
     );
-    received(answer, body::part(&space, 0, room));
+    received(rt, answer, body::part(&space, 0, room))
 }
 
-pub(crate) fn remove(command: &[u8], table: &mut [u64; WORDS]) {
+pub(crate) fn remove(rt: &impl Print, command: &[u8], table: &mut [u64; WORDS]) -> io::Result<()> {
     if command.len() < 10 {
-        return bad();
+        return bad(rt);
     }
     match reception::remove(table, body::node(command, 0), body::word(command, 8)) {
-        Removed::Done => print::word(b"removed"),
-        Removed::Refused(refusal) => print::refused(refusal),
+        Removed::Done => print::word(rt, "removed"),
+        Removed::Refused(refusal) => print::refused(rt, refusal),
     }
 }
 
 // One row, where any of its fields is not zero.
-fn listed(number: usize, row: Row) {
+fn listed(rt: &impl Print, number: usize, row: Row) -> io::Result<()> {
     if !row.used & (row.node == 0) & (row.key == 0) & (row.highest == 0) & (row.marks == 0) {
-        return;
+        return Ok(());
     }
-    print::number(number as u64);
+    print::number(rt, number as u64)?;
     if row.used {
-        print::word(b":1:");
+        print::word(rt, ":1:")?;
     } else {
-        print::word(b":0:");
+        print::word(rt, ":0:")?;
     }
-    io::print_hex(STDOUT_FILENO, row.node, 16);
-    print::word(b":");
-    io::print_decimal(STDOUT_FILENO, row.key as u64);
-    print::word(b":");
-    io::print_decimal(STDOUT_FILENO, row.highest as u64);
-    print::word(b":");
-    io::print_decimal(STDOUT_FILENO, row.marks as u64);
+    print!(rt;
+        "{:016x}:{}:{}:{}",
+        row.node, row.key, row.highest, row.marks
+    )
 }
 
-pub(crate) fn rows(table: &[u64; WORDS]) {
-    print::word(b"rows");
+pub(crate) fn rows(rt: &impl Print, table: &[u64; WORDS]) -> io::Result<()> {
+    print::word(rt, "rows")?;
     for number in 0..table::ROWS {
-        listed(number, table_rows::row_at(table, number));
+        listed(rt, number, table_rows::row_at(table, number))?;
     }
+    Ok(())
 }

@@ -3,7 +3,6 @@ use Rattle.std.specs.Prelude.{ℕ, Bool, List}
 use Rattle.records.specs.Records.{wrong_mark, bad_row}
 use Rattle.records.specs.Restoring.{record_at, row_from, named_before}
 use Rattle.faults.specs.declared.Fault.{Fault}
-use Rattle.faults.specs.declared.Fault.TheVariants as Fault
 
 -- has the record at a number this fault?
 abbrev pub fault_at : Fault → List ℕ → ℕ → Bool

@@ -1,4 +1,6 @@
 // What is wrong with saved bytes: the refusals of restoring.
+#![tactic(auto)]
+
 ghost use Rattle.std.specs.Prelude.{◌≡◌, ◌<◌};
 ghost use Rattle.message.specs.Order.{first};
 ghost use Rattle.records.specs.Records.{same_name};

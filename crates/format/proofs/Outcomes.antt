@@ -10,6 +10,7 @@ use prog.Routine.{Routine}
 use types.Logic.{Logic}
 use contract.Monad.{Fun, conj, fact}
 use contract.Lifetimes.{Lfts}
+use denote.MutBor.{MutBor}
 use denote.Ref.{Bor}
 use denote.Triple.Clauses.{AtExit}
 use Rattle.message.specs.Answers.{buffer_after}
@@ -61,7 +62,7 @@ module _ {M : Type 1} {𝓤 : Ura M} (𝓛 : Logic 𝓤) (at_mem : Memory → SP
       ent 𝓤 (conj 𝓤 (allows r x) (allows s y)) (fact 𝓤 (r ≡ s))
   one_would_write κs m p c room r s x y = both 𝓤 _ _ _ (λ e f. e ∙ sym f)
 
-  pub one_write : (κs : Lfts 3) (m : Message) (p : Bor (List ℕ)) (c : Bor (List ℕ)) (out : Bor (List ℕ)) (r s : Writing) (x y : AtExit write.ended κs)
+  pub one_write : (κs : Lfts 3) (m : Message) (p : Bor (List ℕ)) (c : Bor (List ℕ)) (out : MutBor (List ℕ)) (r s : Writing) (x y : AtExit write.ended κs)
       → let allows : Writing → AtExit write.ended κs → SProp 𝓤 = λ v e. (write.clauses 𝓛 at_mem run κs (m, (p, (c, (out, tt))))).ensures tt v e in
       ent 𝓤 (conj 𝓤 (allows r x) (allows s y)) (fact 𝓤 ((r ≡ s) × (x.1.1.1.0.now ≡ y.1.1.1.0.now)))
   one_write κs m p c out r s x y = both 𝓤 _ _ _ (λ e f. (e.0 ∙ sym f.0, e.1 ∙ ap (λ (v : Writing). buffer_after v (bytes_of m p.now c.now) out.now) (e.0 ∙ sym f.0) ∙ sym f.1))
@@ -71,7 +72,7 @@ module _ {M : Type 1} {𝓤 : Ura M} (𝓛 : Logic 𝓤) (at_mem : Memory → SP
       ent 𝓤 (conj 𝓤 (allows r x) (allows s y)) (fact 𝓤 (r ≡ s))
   one_would_acknowledge κs own sender id m room r s x y = both 𝓤 _ _ _ (λ e f. e ∙ sym f)
 
-  pub one_acknowledge : (κs : Lfts 1) (own sender id : ℕ) (m : Message) (out : Bor (List ℕ)) (r s : Writing) (x y : AtExit acknowledge.ended κs)
+  pub one_acknowledge : (κs : Lfts 1) (own sender id : ℕ) (m : Message) (out : MutBor (List ℕ)) (r s : Writing) (x y : AtExit acknowledge.ended κs)
       → let allows : Writing → AtExit acknowledge.ended κs → SProp 𝓤 = λ v e. (acknowledge.clauses 𝓛 at_mem run κs (own, (sender, (id, (m, (out, tt)))))).ensures tt v e in
       ent 𝓤 (conj 𝓤 (allows r x) (allows s y)) (fact 𝓤 ((r ≡ s) × (x.1.1.1.1.0.now ≡ y.1.1.1.1.0.now)))
   one_acknowledge κs own sender id m out r s x y =
@@ -92,7 +93,7 @@ module _ {M : Type 1} {𝓤 : Ura M} (𝓛 : Logic 𝓤) (at_mem : Memory → SP
       ent 𝓤 (conj 𝓤 (allows r x) (allows s y)) (fact 𝓤 (r.now ≡ s.now))
   one_framed_rest κs stream r s x y = both 𝓤 _ _ _ (λ e f. e ∙ sym f)
 
-  pub one_frame : (κs : Lfts 2) (m : Bor (List ℕ)) (out : Bor (List ℕ)) (r s : Writing) (x y : AtExit frame.ended κs)
+  pub one_frame : (κs : Lfts 2) (m : Bor (List ℕ)) (out : MutBor (List ℕ)) (r s : Writing) (x y : AtExit frame.ended κs)
       → let allows : Writing → AtExit frame.ended κs → SProp 𝓤 = λ v e. (frame.clauses 𝓛 at_mem run κs (m, (out, tt))).ensures tt v e in
       ent 𝓤 (conj 𝓤 (allows r x) (allows s y)) (fact 𝓤 ((r ≡ s) × (x.1.0.now ≡ y.1.0.now)))
   one_frame κs m out r s x y = both 𝓤 _ _ _ (λ e f. (e.0 ∙ sym f.0, e.1 ∙ ap (λ (v : Writing). buffer_after v (frame_bytes m.now) out.now) (e.0 ∙ sym f.0) ∙ sym f.1))

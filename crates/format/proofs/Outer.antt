@@ -14,7 +14,7 @@ use Rattle.message.specs.Answers.{outer_reading}
 use Rattle.message.specs.declared.answers.Refusal.{Refusal}
 use Rattle.message.specs.declared.answers.OuterReading.TheVariants.{Protected, Refused}
 use Rattle.outer.specs.Outer.{outer_order, start_of}
-use Rattle.outer.proofs.Begun.{outer_fixed}
+use Rattle.outer.proofs.Beginning.{outer_fixed}
 
 -- an answer with a part was made of no refusal and that part
 pub outer_place : (r : Refusal) (s l start len : ℕ) → outer_reading r s l ≡ Protected start len → (r.number ≡ 0) × (s ≡ start) × (l ≡ len)

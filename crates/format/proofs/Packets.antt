@@ -119,9 +119,9 @@ module _ (p q : List ℕ) (agree : Agree p q) (differ : length p ≡ length q �
   other_of true = other_by 20 2 0 (omega arith)
   other_of false = other_by 40 4 40 (omega arith)
 
-  other_length : 0 < length q → bad_packet_length p ≡ false → bad_packet_length q ≡ true
+  other_length_lem : 0 < length q → bad_packet_length p ≡ false → bad_packet_length q ≡ true
   unfolding bad_packet_length
-  other_length some e =
+  other_length_lem some e =
       let four = eqb (family p) 4 in
       let same : eqb (family q) 4 ≡ four = ap (λ (b : ℕ). eqb (bits b 4 4) 4) (sym (agree 0 (there four e) some)) in
       ap (λ (b : Bool). length_by b q) same ∙ other_of four e
@@ -178,7 +178,7 @@ module _ (m : Message) (p q c : List ℕ) (room n : ℕ) (z : Sized m) (t : m.tu
       let k = (written m p c room n w).1 in
       let there : length p ≡ 0 → ⊥ = eqb-false _ _ (and_false m.tunnelled _ k.empty t) in
       refused m p q c room z t k some (agree 0 (omega arith) some)
-      (other_length p q agree differ some (and_false m.tunnelled _ (written_sized m p c room n w) t))
+      (other_length_lem p q agree differ some (and_false m.tunnelled _ (written_sized m p c room n w) t))
 
 -- a packet that was written, with bytes behind it; and one whose last bytes are missing
 pub padded : (m : Message) (packet tail check : List ℕ) (room n : ℕ) → Sized m → m.tunnelled ≡ true → write_of m packet check room ≡ Writing.Written n

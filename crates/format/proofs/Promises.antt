@@ -36,7 +36,7 @@ use Rattle.message.proofs.Lengths.{length_bytes}
 use Rattle.outer.specs.Outer.{outer_order, start_of, outer_of}
 use Rattle.reader.specs.Reading.{body_order, reading_order, Legal, read_of}
 use Rattle.parts.specs.Parts.{payload_of, check_of}
-use Rattle.outer.proofs.Begun.{outer_numbered}
+use Rattle.outer.proofs.Beginning.{outer_numbered}
 use Rattle.outer.proofs.Answers.{outer_hit}
 use Rattle.reader.proofs.Readings.{reading_hit}
 use Rattle.reader.proofs.Clear.{taken_legal, taken, head_taken}

@@ -24,7 +24,7 @@ use Rattle.message.specs.declared.answers.Reading.TheVariants.{Refused}
 use Rattle.message.specs.declared.answers.Writing.TheVariants.{Written}
 use Rattle.message.proofs.Logic.{clash, and_false}
 use Rattle.message.proofs.Order.{first_pass}
-use Rattle.outer.proofs.Begun.{outer_numbered}
+use Rattle.outer.proofs.Beginning.{outer_numbered}
 use Rattle.judge.proofs.Clear.{ClearWrite, written, written_sized}
 use Rattle.message.proofs.Lengths.{length_address, length_head, length_bytes, total_is}
 use Rattle.format.proofs.HeaderForth.{exchange_clean}

@@ -3,6 +3,8 @@
 // parts as slices of the caller's bytes; `write` is its mirror, and `acknowledge` writes the standalone
 // acknowledgement of a message. Nothing here knows of rows or
 // verdicts. The laws of all of it are in `proofs/Promises.antt`.
+#![tactic(auto)]
+
 pub use judge::would_write;
 pub use message::{Head, Message, OuterReading, Reading, Refusal, Unframed, Writing};
 pub use outer::read_outer;

@@ -11,7 +11,7 @@ use prog.Routine.{Routine}
 use types.Logic.{Logic}
 use contract.Monad.{Fun, conj, conj_mono, fact}
 use contract.Lifetimes.{Lfts}
-use denote.Ref.{Bor}
+use denote.MutBor.{MutBor}
 use denote.Triple.Clauses.{AtExit}
 use Rattle.lines.specs.Lines.{line_text, last_text, figures_text}
 use Rattle.lines.specs.declared.Said.{Said}
@@ -28,21 +28,21 @@ same {r} {s} old text e f = let k : r ≡ s = e.0 ∙ sym f.0 in (k, e.1 ∙ ap 
 
 module _ {M : Type 1} {𝓤 : Ura M} (𝓛 : Logic 𝓤) (at_mem : Memory → SProp 𝓤) (run : Routine → Fun 𝓤) where
   -- `line` makes one text, and leaves one buffer
-  pub one_line : (κs : Lfts 1) (ordinal : ℕ) (said : Said) (out : Bor (List ℕ)) (r s : ℕ) (x y : AtExit line.ended κs)
+  pub one_line : (κs : Lfts 1) (ordinal : ℕ) (said : Said) (out : MutBor (List ℕ)) (r s : ℕ) (x y : AtExit line.ended κs)
       → let allows : ℕ → AtExit line.ended κs → SProp 𝓤 = λ v e. (line.clauses 𝓛 at_mem run κs (ordinal, (said, (out, tt)))).ensures tt v e in
       ent 𝓤 (conj 𝓤 (allows r x) (allows s y)) (fact 𝓤 ((r ≡ s) × (x.1.1.0.now ≡ y.1.1.0.now)))
   one_line κs ordinal said out r s x y =
       via 𝓤 _ (conj_mono 𝓤 (two 𝓤 _ _) (two 𝓤 _ _)) (both 𝓤 _ _ _ (λ e f. same out.now (line_text ordinal said) e.0 f.0))
 
   -- `last` makes one text, and leaves one buffer
-  pub one_last : (κs : Lfts 1) (left : ℕ) (out : Bor (List ℕ)) (r s : ℕ) (x y : AtExit last.ended κs)
+  pub one_last : (κs : Lfts 1) (left : ℕ) (out : MutBor (List ℕ)) (r s : ℕ) (x y : AtExit last.ended κs)
       → let allows : ℕ → AtExit last.ended κs → SProp 𝓤 = λ v e. (last.clauses 𝓛 at_mem run κs (left, (out, tt))).ensures tt v e in
       ent 𝓤 (conj 𝓤 (allows r x) (allows s y)) (fact 𝓤 ((r ≡ s) × (x.1.0.now ≡ y.1.0.now)))
   one_last κs left out r s x y =
       via 𝓤 _ (conj_mono 𝓤 (two 𝓤 _ _) (two 𝓤 _ _)) (both 𝓤 _ _ _ (λ e f. same out.now (last_text left) e.0 f.0))
 
   -- `figures` makes one text, and leaves one buffer
-  pub one_figures : (κs : Lfts 1) (figure : Figure) (out : Bor (List ℕ)) (r s : ℕ) (x y : AtExit figures.ended κs)
+  pub one_figures : (κs : Lfts 1) (figure : Figure) (out : MutBor (List ℕ)) (r s : ℕ) (x y : AtExit figures.ended κs)
       → let allows : ℕ → AtExit figures.ended κs → SProp 𝓤 = λ v e. (figures.clauses 𝓛 at_mem run κs (figure, (out, tt))).ensures tt v e in
       ent 𝓤 (conj 𝓤 (allows r x) (allows s y)) (fact 𝓤 ((r ≡ s) × (x.1.0.now ≡ y.1.0.now)))
   one_figures κs figure out r s x y =

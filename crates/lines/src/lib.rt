@@ -1,6 +1,8 @@
 // The text of the listing and of the trial. The listing has a line for each message, and the last line. The
 // trial has a line for each number of marks and one for the least number, or one for its refusal. A text
 // goes to the front of a buffer of LINE bytes, which holds the longest.
+#![tactic(auto)]
+
 mod appends;
 
 ghost use Rattle.std.specs.Prelude.{◌≡◌, ◌++◌, length, drop};

@@ -2,10 +2,10 @@
 ghost use Rattle.std.specs.Prelude.{◌≡◌, ◌≤◌, length};
 ghost use Rattle.listing.specs.Listing.{said_of, heard_of, heard_table, passed_of, table_past, left_of};
 
-use libc::STDOUT_FILENO;
 use lines::Said;
 use message::{Unframed, layout};
 use reception::Received;
+use std::io;
 use table::WORDS;
 
 // The own node; the link's node, of which nothing is known; the id of the acknowledgements.
@@ -39,26 +39,46 @@ fn hear(message: &[u8], table: &mut [u64; WORDS]) -> Said
     said(answer)
 }
 
+// Prints a line, where all that was to be printed before it is printed. A write that fails is kept, and nothing is printed after it:
+// the messages that follow are still received.
+fn print(rt: &impl Print, line: &[u8], printed: &mut io::Result<()>) {
+    if printed.is_ok() {
+        *printed = rt.write_all(line);
+    }
+}
+
 // Receives a message and prints its line.
-fn show(ordinal: u64, message: &[u8], table: &mut [u64; WORDS])
+fn show(
+    rt: &impl Print,
+    ordinal: u64,
+    message: &[u8],
+    table: &mut [u64; WORDS],
+    printed: &mut io::Result<()>,
+)
     ensures { table.new ≡ heard_table message.now table.old }
 {
     let heard = hear(message, table);
     let mut text = [0u8; lines::LINE];
     let count = lines::line(ordinal, heard, &mut text);
-    io::write_all(STDOUT_FILENO, &text[..count]);
+    print(rt, &text[..count], printed);
 }
 
 // Shows the message at the front of a stream, if it is whole. Gives the number of bytes passed, 0 if it
 // is not.
-fn step(stream: &[u8], ordinal: u64, table: &mut [u64; WORDS]) -> usize
+fn step(
+    rt: &impl Print,
+    stream: &[u8],
+    ordinal: u64,
+    table: &mut [u64; WORDS],
+    printed: &mut io::Result<()>,
+) -> usize
     ensures result { (result ≡ passed_of stream.now) × (result ≤ length stream.now) }
     ensures table { table.new ≡ table_past stream.now table.old }
 {
     let frame = stream::unframe(stream);
     match frame {
         Unframed::Whole(len) => {
-            show(ordinal, stream::framed_message(stream), table);
+            show(rt, ordinal, stream::framed_message(stream), table, printed);
             layout::FRAME + len
         }
         Unframed::Incomplete(_) => 0,
@@ -66,24 +86,24 @@ fn step(stream: &[u8], ordinal: u64, table: &mut [u64; WORDS]) -> usize
 }
 
 // Prints the last line.
-pub(crate) fn finish(left: u64) {
+pub(crate) fn finish(rt: &impl Print, left: u64, printed: &mut io::Result<()>) {
     let mut text = [0u8; lines::LINE];
     let count = lines::last(left, &mut text);
-    io::write_all(STDOUT_FILENO, &text[..count]);
+    print(rt, &text[..count], printed);
 }
 
 // Lists a stream, from an empty table on. Gives the count of the bytes left over.
-pub(crate) fn list(stream: &[u8]) -> usize
+pub(crate) fn list(rt: &impl Print, stream: &[u8], printed: &mut io::Result<()>) -> usize
     ensures { result ≡ left_of stream.now }
 {
     let mut table = [0u64; WORDS];
     let mut at = 0;
     let mut ordinal: u64 = 1;
-    let mut passed = step(stream, ordinal, &mut table);
+    let mut passed = step(rt, stream, ordinal, &mut table, printed);
     while 0 < passed {
         at += passed;
         ordinal += 1;
-        passed = step(&stream[at..], ordinal, &mut table);
+        passed = step(rt, &stream[at..], ordinal, &mut table, printed);
     }
     stream.len() - at
 }

@@ -17,7 +17,7 @@ use Rattle.message.proofs.Order.{there_is, there_is_none}
 use Rattle.outer.specs.Outer.{outer_order, start_of, outer_of}
 use Rattle.outer.specs.Steps.{begun_of}
 use Rattle.outer.specs.declared.outer.Begun.TheVariants.{Address, Refused}
-use Rattle.outer.proofs.Begun.{address_clear, refused_first, outer_fixed}
+use Rattle.outer.proofs.Beginning.{address_clear, refused_first, outer_fixed}
 
 pub outer_hit : (r : Refusal) (start len : ℕ) → (r.number ≡ 0 → ⊥) → outer_reading r start len ≡ OuterReading.Refused r
 outer_hit r start len h = there_is r (OuterReading.Protected start len) (OuterReading.Refused r) h

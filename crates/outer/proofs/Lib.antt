@@ -1,6 +1,6 @@
 pub mod Maybe
 pub mod Steps
-pub mod Begun
+pub mod Beginning
 pub mod Clear
 pub mod Answers
 pub mod Outcomes

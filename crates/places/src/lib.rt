@@ -1,5 +1,7 @@
 // Every size, place and bit of the boundary to callers in other languages, by name, and the fields of a
 // message in their places. A place is an index into a lent array.
+#![tactic(auto)]
+
 mod fields;
 
 pub use fields::store;

@@ -20,7 +20,7 @@ use Rattle.message.proofs.Order.{there_is, number_of, none_first, first_pass, fi
 use Rattle.outer.specs.Outer.{outer_order}
 use Rattle.outer.specs.Steps.{fixed_at, begun_of}
 use Rattle.outer.specs.declared.outer.Begun.TheVariants.{Address, Refused}
-use Rattle.outer.proofs.Begun.{refused_first, outer_numbered, outer_fixed}
+use Rattle.outer.proofs.Beginning.{refused_first, outer_numbered, outer_fixed}
 use Rattle.outer.proofs.Clear.{outer_clear}
 use Rattle.outer.proofs.Answers.{outer_none, outer_given, outer_body}
 use Rattle.reader.specs.Reading.{exchange_order, tunnel_order, body_order, reading_order, read_of}

@@ -10,6 +10,7 @@ use prog.Routine.{Routine}
 use types.Logic.{Logic}
 use contract.Monad.{Fun, conj, conj_mono, fact}
 use contract.Lifetimes.{Lfts}
+use denote.MutBor.{MutBor}
 use denote.Ref.{Bor}
 use denote.Triple.Clauses.{AtExit}
 use Rattle.wire.proofs.One.{both, two}
@@ -18,7 +19,7 @@ use Rattle.restoring.specs.contracts.restore as restoring
 
 module _ {M : Type 1} {𝓤 : Ura M} (𝓛 : Logic 𝓤) (at_mem : Memory → SProp 𝓤) (run : Routine → Fun 𝓤) where
   -- it gives one answer, and leaves one table
-  pub one_restore : (κs : Lfts 2) (table bytes : Bor (List ℕ)) (r s : Restored) (x y : AtExit restoring.ended κs)
+  pub one_restore : (κs : Lfts 2) (table : MutBor (List ℕ)) (bytes : Bor (List ℕ)) (r s : Restored) (x y : AtExit restoring.ended κs)
       → let allows : Restored → AtExit restoring.ended κs → SProp 𝓤 = λ v e. (restoring.clauses 𝓛 at_mem run κs (table, (bytes, tt))).ensures tt v e in
       ent 𝓤 (conj 𝓤 (allows r x) (allows s y)) (fact 𝓤 ((r ≡ s) × (x.0.now ≡ y.0.now)))
   one_restore κs table bytes r s x y =

@@ -1,5 +1,7 @@
 // Restoring a table from saved bytes: where nothing is wrong with them, their rows take the place of the
 // whole table.
+#![tactic(auto)]
+
 ghost use Rattle.std.specs.Prelude.{◌≡◌, ◌-◌, ◌≤◌, length, replicate};
 ghost use Rattle.std.proofs.lemmas.List.Edits.{sets};
 ghost use Rattle.table.specs.Table.{rows};

@@ -1,4 +1,6 @@
 // The stream: a length of two bytes, low byte first, before each message.
+#![tactic(auto)]
+
 ghost use Rattle.std.specs.Prelude.{◌≡◌, ◌+◌, ◌≤◌, length};
 ghost use Rattle.message.specs.Answers.{buffer_after};
 ghost use Rattle.stream.specs.Stream.{unframe_of, framed_message, framed_rest, frame_bytes, frame_of};
@@ -69,6 +71,6 @@ pub fn frame(message: &[u8], out: &mut [u8]) -> Writing
     }
     let start = layout::FRAME;
     put::put16(&mut out[0..start], message.len() as u16);
-    bytes::copy(message, &mut out[start..total]);
+    out[start..total].copy_from_slice(message);
     Writing::Written(total)
 }

@@ -1,10 +1,13 @@
 // The trial: reads ids that were recorded from one encrypted sender from standard input. Prints a line for each of three numbers of marks,
 // with how many ids are new by it and how many are duplicates, and last the least number; or the refusal.
+#![tactic(auto)]
+
 ghost use Rattle.std.specs.Prelude.{◌≡◌};
 ghost use Rattle.trial.specs.Lines.{tally_line};
 
-use libc::{STDIN_FILENO, STDOUT_FILENO};
 use lines::Figure;
+use std::io;
+use std::io::Read;
 use widths::{Tally, Tried};
 
 // One byte more than a trial takes is asked for, so that it is noticed where there is one.
@@ -18,28 +21,28 @@ fn line_of(tally: Tally) -> Figure
 }
 
 // Prints a line.
-fn show(figure: Figure) {
+fn show(rt: &impl Print, figure: Figure) -> io::Result<()> {
     let mut text = [0u8; lines::LINE];
     let count = lines::figures(figure, &mut text);
-    io::write_all(STDOUT_FILENO, &text[..count]);
+    rt.write_all(&text[..count])
 }
 
 // Prints the lines of an answer, in their order.
-fn tell(tried: Tried) {
+fn tell(rt: &impl Print, tried: Tried) -> io::Result<()> {
     match tried {
         Tried::Counted(few, more, most, least) => {
-            show(line_of(few));
-            show(line_of(more));
-            show(line_of(most));
-            show(Figure::Least(least));
+            show(rt, line_of(few))?;
+            show(rt, line_of(more))?;
+            show(rt, line_of(most))?;
+            show(rt, Figure::Least(least))
         }
-        Tried::Refused(number) => show(Figure::Refused(number)),
+        Tried::Refused(number) => show(rt, Figure::Refused(number)),
     }
 }
 
 // Up to 65,537 bytes are read; later bytes are not.
-fn main() {
-    let mut space = [0u8; SPACE];
-    let count = io::read_full(STDIN_FILENO, &mut space);
-    tell(widths::trial(&space[..count]));
+fn main(rt: HostRuntime) -> io::Result<()> {
+    let mut bytes = Vec::new(rt.alloc());
+    rt.reader().take(SPACE as u64).read_to_end(&mut bytes)?;
+    tell(&rt, widths::trial(&bytes))
 }

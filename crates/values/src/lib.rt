@@ -1,4 +1,6 @@
 // The value that the places of an array say, where each holds a number that its field can hold.
+#![tactic(auto)]
+
 ghost use Rattle.std.specs.Prelude.{◌≡◌};
 ghost use Rattle.values.specs.Values.{clean_header, fits, Fitting, value_from, load_of};
 

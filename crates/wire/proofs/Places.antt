@@ -4,7 +4,8 @@ use mathlib.Core.Path.{◌≡◌, refl, sym, ap, ap₂, ◌∙◌}
 use mathlib.Core.List.{List, ◌++◌, append_assoc, append-nil}
 use native.Mathlib.Omega.{arith}
 use lib.ListN.{length, take, drop, length-drop}
-use lib.Seq.{sets, sets-eq, take_all, take-length, drop-length, length-take-le, drop-drop}
+use lib.Seq.{sets, sets-eq, take_all, drop-length, length-take-le, drop-drop}
+use Rattle.std.proofs.lemmas.List.{drop_all}
 use Rattle.wire.specs.Bytes.{part, front, placed}
 use Rattle.wire.proofs.Fronts.{part_take, front_whole, placed_whole}
 
@@ -45,14 +46,14 @@ place_put old new last at w e h p =
     ∙ sym (sets-eq new old at (omega arith))
 
 -- what a copy leaves in the whole: all of a list at the place
-pub place_copy : (old from last : List ℕ) (at : ℕ) → at + length from ≤ length old
-    → last ≡ take (length from) from ++ drop (length from) (take (at + length from - at) (drop at old))
+pub place_copy : (old from last : List ℕ) (at : ℕ) → at + length from ≤ length old → last ≡ from
     → take at old ++ (last ++ drop (at + length from - at) (drop at old)) ≡ sets old at from
 place_copy old from last at h e =
-    let l : length (take (length from) (drop at old)) ≡ length from = length_within old at (length from) h in
-    let w : at + length from - at ≡ length from = width at (length from) in
-    let k : length from ≤ length (take (at + length from - at) (drop at old)) = rw w (omega arith) in
+    let x = take (at + length from - at) (drop at old) in
+    let l : length x ≡ length from = rw (width at (length from)) (length_within old at (length from) h) in
+    let k : length from ≤ length x = omega arith in
     place_put old from last at (length from) refl h
     (e
-    ∙ ap (λ (x : List ℕ). x ++ drop (length from) (take (at + length from - at) (drop at old))) (take-length from)
-    ∙ sym (placed_whole from (take (at + length from - at) (drop at old)) k))
+    ∙ sym (append-nil from)
+    ∙ ap (λ (y : List ℕ). from ++ y) (sym (drop_all (length from) x (omega arith)))
+    ∙ sym (placed_whole from x k))

@@ -56,6 +56,6 @@ pub(crate) fn store_all(out: &mut [u8], at: usize, from: &[u8]) -> usize
     ensures { (result ≡ at + length from.now) × (out.new ≡ sets out.old at from.now) }
 {
     let end = at + from.len();
-    bytes::copy(from, &mut out[at..end]);
+    out[at..end].copy_from_slice(from);
     end
 }
