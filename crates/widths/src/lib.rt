@@ -1,5 +1,7 @@
 // How wide a window must be: what numbers of marks make of ids that were recorded from one encrypted sender, and the least number with
 // which every verdict is that of 63 (request K5).
+#![tactic(auto)]
+
 ghost use Rattle.std.specs.Prelude.{◌≡◌, ◌^◌, ◌<◌, ◌≤◌, max, min};
 ghost use Rattle.window.specs.Windows.{most_marks};
 ghost use Rattle.widths.specs.Trial.{ids_of, tally_of, trial_of, lost_of};
