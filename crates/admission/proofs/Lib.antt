@@ -2,3 +2,4 @@
 pub mod Answered
 pub mod Orders
 pub mod Places
+pub mod Clauses

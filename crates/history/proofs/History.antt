@@ -7,7 +7,7 @@ use lib.ListN.{length}
 use Rattle.window.specs.declared.Row.{Row}
 use Rattle.table.specs.Table.{rows, empty_table, row_of, named, in_use}
 use Rattle.table.proofs.Words.{empty_row}
-use Rattle.history.specs.History.{Book, Step, Answer, answers_of, table_of, empty_book, answers_by, book_of}
+use Rattle.history.specs.History.{Book, Step, Answer, answers_of, table_at, table_of, empty_book, answers_by, book_at, book_of}
 use Rattle.history.specs.HandedIn.{handed_in}
 use Rattle.history.specs.Telling.{AllOf, Stand, Told}
 use Rattle.table.proofs.Kept.{kept_none}
@@ -20,10 +20,10 @@ use Rattle.history.proofs.Steps.{one_step}
 pub history : {t : List ℕ} {book : Book} → Told t book → (steps : List Step) → AllOf steps
     → (answers_of t steps ≡ answers_by book steps) × Told (table_of t steps) (book_of book steps)
 unfolding answers_of answers_by table_of book_of
-history told [] h = (refl, told)
-history told (s ∷ steps) h =
+history {t = t} {book = book} told [] h = (refl, told)
+history {t = t} {book = book} told (s ∷ steps) h =
     let w = one_step told s h.0 in
-    let on = history w.1 steps h.1 in
+    let on = history {t = table_at t s} {book = book_at book s} w.1 steps h.1 in
     (ap₂ (λ (a : Answer) (more : List Answer). a ∷ more) w.0 on.0, on.1)
 
 -- ---- where a history starts

@@ -41,7 +41,7 @@ use Rattle.records.specs.Sound.{SoundRow}
 use Rattle.records.specs.declared.answers.Restored.{Restored}
 use Rattle.records.specs.declared.answers.Restored.TheVariants as Restored
 use Rattle.records.proofs.Placed.{narrow_from, node_from, restored_free, restored_row, Taken, is_taken}
-use Rattle.history.specs.History.{Step, arrives, leaves, restores, table_at, Book, table_of}
+use Rattle.history.specs.History.{Step, arrives, leaves, restores, table_at, Book, book_at, table_of}
 use Rattle.history.specs.Telling.{Bytes, AllOf, Links, AllLinks, Told}
 use Rattle.history.proofs.Steps.{id_low, key_low, one_step}
 
@@ -233,5 +233,6 @@ empty_sound k u = clash false (sym (ap (λ (r : Row). r.used) (empty_row k)) ∙
 
 pub history_sound : {t : List ℕ} {book : Book} → Told t book → AllSound t → (steps : List Step) → AllOf steps → AllLinks steps → AllSound (table_of t steps)
 unfolding table_of
-history_sound told all [] h l = all
-history_sound {t} told all (s ∷ steps) h l = history_sound (one_step told s h.0).1 (step_sound t told.size all s h.0 l.0) steps h.1 l.1
+history_sound {t = t} {book = book} told all [] h l = all
+history_sound {t = t} {book = book} told all (s ∷ steps) h l =
+    history_sound {t = table_at t s} {book = book_at book s} (one_step told s h.0).1 (step_sound t told.size all s h.0 l.0) steps h.1 l.1

@@ -9,6 +9,7 @@ use prog.Routine.{Routine}
 use types.Logic.{Logic}
 use contract.Monad.{Fun, conj, conj_mono, fact}
 use contract.Lifetimes.{Lfts}
+use denote.MutBor.{MutBor}
 use denote.Ref.{Bor}
 use denote.Triple.Clauses.{AtExit}
 use mathlib.Core.Bool.{Bool}
@@ -21,14 +22,14 @@ use Rattle.reception.specs.contracts.receiving.receive as receiving
 
 module _ {M : Type 1} {𝓤 : Ura M} (𝓛 : Logic 𝓤) (at_mem : Memory → SProp 𝓤) (run : Routine → Fun 𝓤) where
   -- `remove` gives one answer, and leaves one table
-  pub one_removal : (κs : Lfts 1) (table : Bor (List ℕ)) (node key : ℕ) (r s : Removed) (x y : AtExit removing.ended κs)
+  pub one_removal : (κs : Lfts 1) (table : MutBor (List ℕ)) (node key : ℕ) (r s : Removed) (x y : AtExit removing.ended κs)
       → let allows : Removed → AtExit removing.ended κs → SProp 𝓤 = λ v e. (removing.clauses 𝓛 at_mem run κs (table, (node, (key, tt)))).ensures tt v e in
       ent 𝓤 (conj 𝓤 (allows r x) (allows s y)) (fact 𝓤 ((r ≡ s) × (x.0.now ≡ y.0.now)))
   one_removal κs table node key r s x y =
       via 𝓤 _ (conj_mono 𝓤 (two 𝓤 _ _) (two 𝓤 _ _)) (both 𝓤 _ _ _ (λ e f. (e.0 ∙ sym f.0, e.1 ∙ sym f.1)))
 
   -- `receive` gives one answer, and leaves one table and one buffer
-  pub one_receipt : (κs : Lfts 3) (own link : ℕ) (passed : Bool) (id : ℕ) (bytes table out : Bor (List ℕ)) (r s : Received) (x y : AtExit receiving.ended κs)
+  pub one_receipt : (κs : Lfts 3) (own link : ℕ) (passed : Bool) (id : ℕ) (bytes : Bor (List ℕ)) (table out : MutBor (List ℕ)) (r s : Received) (x y : AtExit receiving.ended κs)
       → let allows : Received → AtExit receiving.ended κs → SProp 𝓤 = λ v e. (receiving.clauses 𝓛 at_mem run κs (own, (link, (passed, (id, (bytes, (table, (out, tt)))))))).ensures tt v e in
       ent 𝓤 (conj 𝓤 (allows r x) (allows s y))
       (fact 𝓤 ((r ≡ s) × ((x.1.1.1.1.1.0.now ≡ y.1.1.1.1.1.0.now) × (x.1.1.1.1.1.1.0.now ≡ y.1.1.1.1.1.1.0.now))))

@@ -1,5 +1,7 @@
 // Reception: receiving a message, and removing a row. It stands above the format, the window, the table
 // and the admission, and goes by their contracts alone.
+#![tactic(auto)]
+
 mod answers;
 mod receiving;
 mod removing;
