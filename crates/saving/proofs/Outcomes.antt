@@ -10,6 +10,7 @@ use prog.Routine.{Routine}
 use types.Logic.{Logic}
 use contract.Monad.{Fun, conj, conj_mono, fact}
 use contract.Lifetimes.{Lfts}
+use denote.MutBor.{MutBor}
 use denote.Ref.{Bor}
 use denote.Triple.Clauses.{AtExit}
 use Rattle.wire.proofs.One.{both, two}
@@ -18,7 +19,7 @@ use Rattle.saving.specs.contracts.save as saving
 
 module _ {M : Type 1} {𝓤 : Ura M} (𝓛 : Logic 𝓤) (at_mem : Memory → SProp 𝓤) (run : Routine → Fun 𝓤) where
   -- it gives one answer, and leaves one buffer
-  pub one_save : (κs : Lfts 2) (table out : Bor (List ℕ)) (r s : Writing) (x y : AtExit saving.ended κs)
+  pub one_save : (κs : Lfts 2) (table : Bor (List ℕ)) (out : MutBor (List ℕ)) (r s : Writing) (x y : AtExit saving.ended κs)
       → let allows : Writing → AtExit saving.ended κs → SProp 𝓤 = λ v e. (saving.clauses 𝓛 at_mem run κs (table, (out, tt))).ensures tt v e in
       ent 𝓤 (conj 𝓤 (allows r x) (allows s y)) (fact 𝓤 ((r ≡ s) × (x.1.0.now ≡ y.1.0.now)))
   one_save κs table out r s x y =

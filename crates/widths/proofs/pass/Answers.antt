@@ -1,4 +1,4 @@
--- The measure is what is left of the bytes. Assumes nothing.
+-- Each round counts one id more of those that are left, and past the last none is left. Assumes nothing.
 use mathlib.Core.Path.{◌≡◌, sym, ap, ◌∙◌}
 use mathlib.Core.List.{List, [], ◌∷◌}
 use Prim.Native.Nat.{ℕ, ◌+◌, ◌≤◌}
@@ -39,6 +39,7 @@ loop-at-preserved c =
       left_on a.few a.more (ids_of bytes) l.run _ _ _ id (omega arith) ids run i.5,
     )
 
+-- past the loop, what is left are no ids
 pub returns : goal.returns
 returns c =
     let l = c.loop-at in

@@ -14,7 +14,7 @@ use Rattle.window.proofs.Marks.{Arrival, outcome_same, outcome_ahead, outcome_pa
 use Rattle.window.proofs.Hearing.{keeps_window, heard_old, heard_new_lem, heard_first}
 use Rattle.window.proofs.windows.heard_within.Goals as goal
 
--- what the contract asks of the numbers is what the laws ask
+-- the contract asks of the numbers what the laws ask
 fits : {behind held : ℕ} → (held ≤ most_marks) × (held ≤ behind) × (behind ≤ behind_encrypted) → Fits behind held
 fits r = record { window = r.1; behind = omega arith }
 
