@@ -1,4 +1,4 @@
-/* stores: messages of many kinds, received one after the other. The script `stores` finds in the emulator's trace what each receive stores in
+/* stores: messages of many kinds, received one after the other. The script `stores` finds in the log of its steps what each receive stores in
  * memory. Exit status 1: a wrong answer. */
 #include "start.h"
 #include "messages.h"
@@ -53,7 +53,7 @@ static const struct arrival arrivals[] = {
 	{ whole, sizeof whole, 8, STRANGER, true, 56, 20 * 65536 },
 };
 
-/* In the trace a receive stands between these two. At the first it shows the buffer and the table, and the stack pointer before anything is laid down
+/* In the log a receive stands between these two. At the first it shows the buffer and the table, and the stack pointer before anything is laid down
  * for the call; at the second the length of the acknowledgement. */
 __attribute__((noinline)) void bench_before(const uint8_t *buffer, size_t length, const uint8_t *rows, size_t size)
 {

@@ -22,12 +22,7 @@ fn store_part(start: usize, len: usize, part: &mut [u64])
 
 // Where the protected part of a message starts and how long it is. Refusals 1 to 9, with the byte at fault
 // in `offset`, which otherwise stays as it was.
-#[unsafe(no_mangle)]
-pub extern "C" fn kabizarle_read_outer(
-    bytes: &[u8],
-    part: &mut [u64; PART_PLACES],
-    offset: &mut u64,
-) -> u32
+pub fn kabizarle_read_outer(bytes: &[u8], part: &mut [u64; PART_PLACES], offset: &mut u64) -> u32
     ensures result { result ≡ outer_number (outer_of bytes.now) }
     ensures part { part.new ≡ part_after (outer_of bytes.now) part.old }
     ensures offset { offset.new ≡ outer_offset (outer_of bytes.now) offset.old }
@@ -47,8 +42,7 @@ pub extern "C" fn kabizarle_read_outer(
 
 // The fields of a message, and where its payload and its check stand in the bytes. Whatever reading
 // refuses, with the byte at fault in `offset`, which otherwise stays as it was.
-#[unsafe(no_mangle)]
-pub extern "C" fn kabizarle_read(bytes: &[u8], fields: &mut [u64; FIELDS], offset: &mut u64) -> u32
+pub fn kabizarle_read(bytes: &[u8], fields: &mut [u64; FIELDS], offset: &mut u64) -> u32
     ensures result { result ≡ reading_number (read_of bytes.now) }
     ensures fields { fields.new ≡ read_after (read_of bytes.now) (length bytes.now) fields.old }
     ensures offset { offset.new ≡ read_offset (read_of bytes.now) offset.old }
@@ -84,8 +78,7 @@ pub(crate) fn settle(answer: Writing, written: &mut u64) -> u32
 // Writes the message that the places say at the front of a buffer, and says its length; only the first
 // ten places are looked at. A number that its field cannot hold is refused with 14 before anything
 // else; then whatever writing refuses.
-#[unsafe(no_mangle)]
-pub extern "C" fn kabizarle_write(
+pub fn kabizarle_write(
     fields: &[u64; FIELDS],
     payload: &[u8],
     check: &[u8],

@@ -1,9 +1,7 @@
 -- What is printed of an answer, and how far a message reaches. Assumes nothing.
 use Rattle.std.specs.Prelude.{ℕ, zero, suc, ◌+◌, true, cond, List, ltb, length, drop}
 use Rattle.lines.specs.declared.Said.{Said}
-use Rattle.lines.specs.declared.Said.TheVariants as Said
 use Rattle.admission.specs.declared.answers.Received.{Received}
-use Rattle.admission.specs.declared.answers.Received.TheVariants as Received
 use Rattle.message.specs.declared.answers.Unframed.{Unframed}
 use Rattle.message.specs.declared.answers.Unframed.TheVariants.{Whole, Incomplete}
 use Rattle.reception.specs.Receiving.{beside, receive_of, receive_table}
