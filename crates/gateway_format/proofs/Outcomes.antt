@@ -1,4 +1,4 @@
--- Only one outcome fits each exported function: two that its clauses allow are equal, all that is lent included.
+-- Only one outcome fits each function of the format over numbers and lent arrays: two that its clauses allow are equal, all that is lent included.
 -- The laws are stated over the clauses themselves, as the source has them. Assumes nothing.
 use Prim.Native.Nat.{ℕ}
 use mathlib.Core.Path.{◌≡◌, sym, ◌∙◌}

@@ -1,6 +1,6 @@
 -- What the boundary of `format` promises: what was read can be written. Assumes nothing.
 
--- Only one outcome fits each exported function.
+-- Only one outcome fits each function of the format over numbers and lent arrays.
 pub use Rattle.gateway_format.proofs.Outcomes.{one_read_outer, one_read, one_write, one_unframe, one_frame}
 use Prim.Native.Nat.{ℕ, ◌≤◌}
 use mathlib.Core.Path.{◌≡◌, sym, ap, ap₂, ◌∙◌}
