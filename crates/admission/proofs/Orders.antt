@@ -16,7 +16,6 @@ use Rattle.message.specs.declared.value.Message.{Message}
 use Rattle.message.specs.declared.answers.Head.{Head}
 use Rattle.message.specs.declared.answers.Refusal.{Refusal}
 use Rattle.message.specs.declared.answers.Writing.{Writing}
-use Rattle.message.specs.declared.answers.Writing.TheVariants as Writing
 use Rattle.message.proofs.Logic.{clash}
 use Rattle.message.proofs.Order.{there_is}
 use Rattle.judge.proofs.Clear.{written}
@@ -24,7 +23,6 @@ use Rattle.window.specs.declared.Rolled.{Rolled}
 use Rattle.window.specs.declared.Verdict.{Verdict}
 use Rattle.window.specs.declared.Verdict.TheVariants.{New, Duplicate}
 use Rattle.admission.specs.declared.answers.Received.{Received}
-use Rattle.admission.specs.declared.answers.Received.TheVariants as Received
 use Rattle.table.specs.Table.{rows}
 use Rattle.reply.specs.Acknowledgement.{acknowledgement_bytes, acknowledging, blank_check}
 use Rattle.reply.specs.Planning.{unwritable, lacks_room, reasoned, planned_of}

@@ -9,7 +9,6 @@ use Rattle.window.specs.Rows.{opened, rolled_of}
 use Rattle.window.specs.declared.Row.{Row}
 use Rattle.window.specs.declared.Rolled.{Rolled}
 use Rattle.window.specs.declared.Verdict.{Verdict}
-use Rattle.window.specs.declared.Verdict.TheVariants as Verdict
 use Rattle.message.specs.declared.value.Message.{Message}
 use Rattle.message.specs.declared.answers.Refusal.{Refusal}
 use Rattle.message.specs.declared.answers.Head.{Head}
@@ -19,7 +18,6 @@ use Rattle.table.specs.Table.{rows, row_of, with_row, find_of, free_of}
 use Rattle.reply.specs.Acknowledgement.{acknowledgement_bytes, acknowledging}
 use Rattle.reply.specs.Planning.{unwritable, lacks_room}
 use Rattle.admission.specs.declared.answers.Received.{Received}
-use Rattle.admission.specs.declared.answers.Received.TheVariants as Received
 
 -- ---- the row of a name
 

@@ -24,11 +24,8 @@ use Rattle.message.specs.declared.value.Message.{Message}
 use Rattle.message.specs.declared.answers.Refusal.{Refusal}
 use Rattle.message.specs.declared.answers.Head.{Head}
 use Rattle.message.specs.declared.answers.Reading.{Reading}
-use Rattle.message.specs.declared.answers.Reading.TheVariants as Reading
 use Rattle.message.specs.declared.answers.OuterReading.{OuterReading}
-use Rattle.message.specs.declared.answers.OuterReading.TheVariants as OuterReading
 use Rattle.message.specs.declared.answers.Writing.{Writing}
-use Rattle.message.specs.declared.answers.Writing.TheVariants as Writing
 use Rattle.message.specs.declared.answers.Unframed.TheVariants.{Whole, Incomplete}
 use Rattle.message.proofs.Order.{number_of, FirstToHold, first_none, refusal_none, first_holds, holds_first, number_first, first_number, first_hit, first_pass}
 use Rattle.message.proofs.Writings.{at_no_byte}

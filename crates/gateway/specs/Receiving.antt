@@ -1,7 +1,6 @@
 -- Receiving: the number of its answer, and what it puts into the lent places; on a refusal nothing but the offset. Assumes nothing.
 use Rattle.std.specs.Prelude.{ℕ, List}
 use Rattle.admission.specs.declared.answers.Received.{Received}
-use Rattle.admission.specs.declared.answers.Received.TheVariants as Received
 use Rattle.places.specs.Fields.{fields_of}
 
 -- the refusal number of receiving, 0 for none

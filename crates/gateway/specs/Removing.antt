@@ -1,7 +1,6 @@
 -- Removing: the number of its answer. Assumes nothing.
 use Rattle.std.specs.Prelude.{ℕ}
 use Rattle.reception.specs.declared.answers.Removed.{Removed}
-use Rattle.reception.specs.declared.answers.Removed.TheVariants as Removed
 
 -- the refusal number of removing, 0 for none
 abbrev pub removed_number : Removed → ℕ

@@ -7,7 +7,6 @@ use native.Mathlib.Omega.{arith}
 use Rattle.message.specs.Answers.{refusal, writing_number, buffer_after}
 use Rattle.message.specs.declared.value.Message.{Message}
 use Rattle.message.specs.declared.answers.Writing.{Writing}
-use Rattle.message.specs.declared.answers.Writing.TheVariants as Writing
 use Rattle.judge.specs.Writing.{write_of}
 use Rattle.values.specs.Values.{fits, value_from, load_of}
 use Rattle.values.specs.declared.Loaded.{Loaded}

@@ -3,11 +3,8 @@
 use Rattle.std.specs.Prelude.{ℕ, List, [], ◌∷◌}
 use Rattle.message.specs.Answers.{refusal}
 use Rattle.message.specs.declared.answers.Reading.{Reading}
-use Rattle.message.specs.declared.answers.Reading.TheVariants as Reading
 use Rattle.message.specs.declared.answers.OuterReading.{OuterReading}
-use Rattle.message.specs.declared.answers.OuterReading.TheVariants as OuterReading
 use Rattle.message.specs.declared.answers.Writing.{Writing}
-use Rattle.message.specs.declared.answers.Writing.TheVariants as Writing
 use Rattle.judge.specs.Writing.{write_of}
 use Rattle.places.specs.Fields.{fields_of}
 use Rattle.values.specs.Values.{load_of}

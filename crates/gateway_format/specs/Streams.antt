@@ -1,7 +1,6 @@
 -- Streams: what unframing puts into the lent places. Assumes nothing.
 use Rattle.std.specs.Prelude.{ℕ, ◌+◌, ◌-◌, List, [], ◌∷◌}
 use Rattle.message.specs.declared.answers.Unframed.{Unframed}
-use Rattle.message.specs.declared.answers.Unframed.TheVariants as Unframed
 
 -- unframing, of a stream of n bytes: nothing wanted, then where the message and the rest stand; or what is wanted, and zeros
 abbrev pub frame_places : Unframed → ℕ → List ℕ

@@ -6,7 +6,6 @@ use lib.ListN.{get_or}
 use Rattle.window.specs.declared.Row.{Row}
 use Rattle.window.specs.declared.Rolled.{Rolled}
 use Rattle.window.specs.declared.Verdict.{Verdict}
-use Rattle.window.specs.declared.Verdict.TheVariants as Verdict
 use Rattle.window.specs.Rows.{rolled_of}
 use Rattle.table.specs.Table.{row_of, with_row}
 use Rattle.gateway_rows.specs.Rows.{verdict_number, words_after, rolled_words}

@@ -1,7 +1,6 @@
 -- Restoring: the number of its answer, and what it puts into the lent count; on a refusal nothing. Assumes nothing.
 use Rattle.std.specs.Prelude.{ℕ}
 use Rattle.records.specs.declared.answers.Restored.{Restored}
-use Rattle.records.specs.declared.answers.Restored.TheVariants as Restored
 
 -- the refusal number of restoring, 0 for none
 abbrev pub restored_number : Restored → ℕ

@@ -29,7 +29,6 @@ use Rattle.table.proofs.Words.{same_row, other_row, empty_row}
 use Rattle.reply.specs.Acknowledgement.{acknowledgement_of, acknowledging}
 use Rattle.admission.specs.Admission.{row_for, rolled_in, admission_order, answer_of, table_after, table_by}
 use Rattle.admission.specs.declared.answers.Received.{Received}
-use Rattle.admission.specs.declared.answers.Received.TheVariants as Received
 use Rattle.reception.specs.declared.answers.Removed.TheVariants as Removed
 use Rattle.reception.specs.Receiving.{Beside, beside, delivery_order, after_reading, receiving_order, receive_of, receive_table}
 use Rattle.admission.proofs.Places.{opens}

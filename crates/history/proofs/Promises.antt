@@ -27,14 +27,12 @@ use Rattle.window.proofs.Promises.{no_position_twice}
 use Rattle.table.specs.Table.{rows, empty_table, row_of, named, find_of, kept, rows_in_use}
 use Rattle.admission.specs.Admission.{rolled_in, answer_of}
 use Rattle.admission.specs.declared.answers.Received.{Received}
-use Rattle.admission.specs.declared.answers.Received.TheVariants as Received
 use Rattle.reception.specs.Receiving.{Beside, sender_of, answer_to, receiving_order}
 use Rattle.reception.proofs.WasRead.{new_of}
 use Rattle.records.specs.Restoring.{record_count, row_from, restore_of, restored_table, table_after, restore_table}
 use Rattle.records.specs.Saving.{saved_bytes}
 use Rattle.records.specs.Sound.{Sound}
 use Rattle.records.specs.declared.answers.Restored.{Restored}
-use Rattle.records.specs.declared.answers.Restored.TheVariants as Restored
 use Rattle.records.proofs.Placed.{narrow_from, restored_length, Taken, is_taken}
 use Rattle.records.proofs.SaveRestore.{restore_after_save}
 use Rattle.history.specs.History.{Step, arrives, leaves, restores, table_at, answers_of, table_of, Book, empty_book, is_new, joined, full_for, under, receive_by, book_after, book_without, restored_book, book_restored, book_at, book_of}

@@ -18,7 +18,6 @@ use Rattle.table.proofs.Kept.{kept_none, kept_one, kept_every}
 use Rattle.records.specs.Records.{row_in, same_name}
 use Rattle.records.specs.Restoring.{record_count, row_from, restore_of, restored_table, table_after, restore_table}
 use Rattle.records.specs.declared.answers.Restored.{Restored}
-use Rattle.records.specs.declared.answers.Restored.TheVariants as Restored
 use Rattle.records.proofs.Placed.{narrow_from, restored_length, restored_kept, Taken, is_taken}
 use Rattle.history.specs.History.{Book, restores, restored_book, book_restored, book_at}
 use Rattle.history.specs.Telling.{Stand, Told, AtMostOne}

@@ -28,7 +28,6 @@ use Rattle.table.proofs.Found.{found_is_in_use_under_the_name}
 use Rattle.table.proofs.Words.{Narrow, other_row, same_row, empty_row}
 use Rattle.admission.specs.Admission.{row_for, no_row, rolled_in, answer_of, table_after, table_by}
 use Rattle.admission.specs.declared.answers.Received.{Received}
-use Rattle.admission.specs.declared.answers.Received.TheVariants as Received
 use Rattle.admission.proofs.Places.{found, opens}
 use Rattle.reception.specs.Receiving.{Beside, sender_of, answer_to, receiving_order, receive_of, receive_table}
 use Rattle.reception.specs.Removing.{remove_table}
@@ -39,7 +38,6 @@ use Rattle.records.specs.Restoring.{record_count, row_from, restore_of, restored
 use Rattle.records.specs.Restoring as rst
 use Rattle.records.specs.Sound.{SoundRow}
 use Rattle.records.specs.declared.answers.Restored.{Restored}
-use Rattle.records.specs.declared.answers.Restored.TheVariants as Restored
 use Rattle.records.proofs.Placed.{narrow_from, node_from, restored_free, restored_row, Taken, is_taken}
 use Rattle.history.specs.History.{Step, arrives, leaves, restores, table_at, Book, book_at, table_of}
 use Rattle.history.specs.Telling.{Bytes, AllOf, Links, AllLinks, Told}

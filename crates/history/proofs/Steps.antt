@@ -22,7 +22,7 @@ use Rattle.window.specs.History.{verdict_of}
 use Rattle.window.specs.declared.Row.{Row}
 use Rattle.window.specs.declared.Rolled.{Rolled}
 use Rattle.window.specs.declared.Verdict.{Verdict}
-use Rattle.window.specs.declared.Verdict.TheVariants.{New, Duplicate}
+use Rattle.window.specs.declared.Verdict.TheVariants.{New}
 use Rattle.window.proofs.Accepting.{step_new}
 use Rattle.window.proofs.History.{Stands, stands_opened, stands_on, verdict_on, was_accepted}
 use Rattle.window.proofs.Promises.{gateway, name_stays, gateway_stray_bit}
@@ -31,7 +31,6 @@ use Rattle.table.specs.Table.{rows, one_if, freed, row_of, with_row, is_free, fi
 use Rattle.admission.specs.Admission.{no_row, rolled_in, answer_of, table_after, table_by}
 use Rattle.reception.specs.Receiving.{Beside, sender_of, answer_to, receiving_order, receive_of, receive_table}
 use Rattle.admission.specs.declared.answers.Received.{Received}
-use Rattle.admission.specs.declared.answers.Received.TheVariants as Received
 use Rattle.reception.specs.declared.answers.Removed.TheVariants as Removed
 use Rattle.admission.specs.Admission as rcv
 use Rattle.reception.specs.Removing.{remove_of, remove_table}

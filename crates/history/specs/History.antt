@@ -11,11 +11,8 @@ use Rattle.window.specs.Rule.{position_after, accepts}
 use Rattle.window.specs.Rows.{marks_held, behind_of, list_of}
 use Rattle.window.specs.History.{verdict_of}
 use Rattle.admission.specs.declared.answers.Received.{Received}
-use Rattle.admission.specs.declared.answers.Received.TheVariants as Received
 use Rattle.reception.specs.declared.answers.Removed.{Removed}
-use Rattle.reception.specs.declared.answers.Removed.TheVariants as Removed
 use Rattle.records.specs.declared.answers.Restored.{Restored}
-use Rattle.records.specs.declared.answers.Restored.TheVariants as Restored
 use Rattle.table.specs.Table.{rows, named, kept}
 use Rattle.admission.specs.Admission.{answer_of}
 use Rattle.reception.specs.Receiving.{Beside, sender_of, answer_to, receiving_order, receive_of, receive_table}

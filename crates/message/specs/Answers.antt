@@ -6,11 +6,8 @@ use Rattle.message.specs.declared.value.Message.{Message}
 use Rattle.message.specs.declared.answers.Refusal.{Refusal}
 use Rattle.message.specs.declared.answers.Head.{Head}
 use Rattle.message.specs.declared.answers.Reading.{Reading}
-use Rattle.message.specs.declared.answers.Reading.TheVariants as Reading
 use Rattle.message.specs.declared.answers.OuterReading.{OuterReading}
-use Rattle.message.specs.declared.answers.OuterReading.TheVariants as OuterReading
 use Rattle.message.specs.declared.answers.Writing.{Writing}
-use Rattle.message.specs.declared.answers.Writing.TheVariants as Writing
 
 -- a refusal that points at no byte
 abbrev pub refusal : ℕ → Refusal

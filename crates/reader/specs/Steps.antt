@@ -9,10 +9,8 @@ use Rattle.message.specs.Answers.{reading}
 use Rattle.reader.specs.Reading.{exchange_order, tunnel_order}
 use Rattle.message.specs.declared.value.Message.{Message}
 use Rattle.message.specs.declared.answers.Reading.{Reading}
-use Rattle.message.specs.declared.answers.Reading.TheVariants as Reading
 use Rattle.reader.specs.declared.reading.Exchange.{Exchange}
 use Rattle.reader.specs.declared.reading.Rest.{Rest}
-use Rattle.reader.specs.declared.reading.Rest.TheVariants as Rest
 
 -- a value with the exchange fields that stand at a place
 abbrev pub exchanged : Message → List ℕ → ℕ → Message

@@ -21,7 +21,6 @@ use Rattle.reader.proofs.Clear.{taken, taken_legal, head_taken}
 use Rattle.reply.specs.Acknowledgement.{acknowledgement_of}
 use Rattle.admission.specs.Admission.{no_row, admission_order, verdict_in, answer_of, table_by, buffer_by}
 use Rattle.admission.specs.declared.answers.Received.{Received}
-use Rattle.admission.specs.declared.answers.Received.TheVariants as Received
 use Rattle.admission.proofs.Orders.{refuses, keeps_table, keeps_buffer}
 use Rattle.reception.specs.Receiving.{Beside, sender_of, bad_link, delivery_order, answer_to, after_reading, receiving_order, receive_of, receive_table, receive_buffer}
 

@@ -32,16 +32,13 @@ use Rattle.message.specs.declared.value.Message.{Message}
 use Rattle.message.specs.declared.answers.Head.{Head}
 use Rattle.message.specs.declared.answers.Refusal.{Refusal}
 use Rattle.message.specs.declared.answers.Reading.{Reading}
-use Rattle.message.specs.declared.answers.Reading.TheVariants as Reading
 use Rattle.message.proofs.Order.{number_of, FirstToHold, at_zero, first_at_zero, first_holds, holds_first}
 use Rattle.reader.specs.Reading.{read_of}
 use Rattle.window.specs.declared.Verdict.{Verdict}
-use Rattle.window.specs.declared.Verdict.TheVariants as Verdict
 use Rattle.table.specs.Table.{row_of}
 use Rattle.table.proofs.Words.{other_row, other_word}
 use Rattle.admission.specs.Admission.{row_for, no_row, admission_order, verdict_in, with_verdict, answer_of, table_by}
 use Rattle.admission.specs.declared.answers.Received.{Received}
-use Rattle.admission.specs.declared.answers.Received.TheVariants as Received
 use Rattle.admission.proofs.Orders.{refuses, keeps_table, keeps_buffer}
 use Rattle.reception.specs.Receiving.{Beside, sender_of, delivery_order, answer_to, after_reading, receiving_order, receive_of, receive_table, receive_buffer}
 use Rattle.reception.proofs.Orders.{own_refused, not_read, is_read, full_for_lem}

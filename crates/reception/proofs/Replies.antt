@@ -24,7 +24,6 @@ use Rattle.reply.specs.Acknowledgement.{acknowledgement_of, blank_check, acknowl
 use Rattle.writer.proofs.Bare.{length_zeros}
 use Rattle.admission.specs.Admission.{buffer_with, buffer_by}
 use Rattle.admission.specs.declared.answers.Received.{Received}
-use Rattle.admission.specs.declared.answers.Received.TheVariants as Received
 use Rattle.reception.specs.Receiving.{Beside, sender_of, answer_to, receive_of, receive_buffer}
 use Rattle.reception.proofs.Cleared.{acknowledgement_fits, is_acknowledged}
 use Rattle.reception.proofs.WasRead.{Said, new_said, duplicate_said, new_was_read, duplicate_was_read}

@@ -19,9 +19,7 @@ use Rattle.message.proofs.Order.{number_of, first_hit}
 use Rattle.reader.specs.Reading.{reading_order, read_of}
 use Rattle.reader.proofs.Clear.{none_taken}
 use Rattle.window.specs.declared.Verdict.{Verdict}
-use Rattle.window.specs.declared.Verdict.TheVariants as Verdict
 use Rattle.admission.specs.declared.answers.Received.{Received}
-use Rattle.admission.specs.declared.answers.Received.TheVariants as Received
 use Rattle.admission.specs.Admission.{no_row, verdict_in, with_verdict, received, answer_of}
 use Rattle.reception.specs.Receiving.{Beside, sender_of, answer_to, after_reading, receiving_order, receive_of}
 
