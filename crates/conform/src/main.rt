@@ -3,6 +3,8 @@
 // at the start.
 #![tactic(auto)]
 
+ghost use Rattle.std.specs.Prelude.{◌≤◌, IfOk, length};
+
 mod body;
 mod messages;
 mod print;
@@ -12,6 +14,9 @@ mod saved;
 use std::io;
 use std::io::Read;
 use table::WORDS;
+
+// The room for a command, whose length has two bytes.
+const SPACE: usize = 65536;
 
 // How many commands are answered at most.
 const MOST: usize = 16_000_000;
@@ -53,25 +58,34 @@ fn cut(head: usize, len: usize, got: usize) -> bool {
     (head < 2) | (got < len)
 }
 
-// Reads so many bytes into the space, from its front on. Gives how many there were: fewer where the input ends.
-fn fill(input: &mut impl Read, space: &mut Vec<u8>, count: usize) -> io::Result<usize> {
-    space.clear();
-    input.by_ref().take(count as u64).read_to_end(space)
+// Reads until the space is full or the input ends. Gives how many bytes stand at its front.
+fn fill(input: &mut impl Read, space: &mut [u8]) -> io::Result<usize>
+    ensures { IfOk result (λ count. count ≤ length space.new) }
+{
+    let mut count = 0;
+    while count < space.len() {
+        let got = input.read(&mut space[count..])?;
+        if got == 0 {
+            break;
+        }
+        count += got;
+    }
+    Ok(count)
 }
 
 // Reads one command into the space and answers it.
 fn step(
     rt: &impl Print,
     input: &mut impl Read,
-    space: &mut Vec<u8>,
+    space: &mut [u8],
     table: &mut [u64; WORDS],
 ) -> io::Result<Next> {
-    let head = fill(input, space, 2)?;
+    let head = fill(input, body::part_mut(space, 2))?;
     if head == 0 {
         return Ok(Next::End);
     }
     let len = body::word(space, 0) as usize;
-    let got = fill(input, space, len)?;
+    let got = fill(input, body::part_mut(space, len))?;
     if cut(head, len, got) {
         print::word(rt, "cut\n")?;
         return Ok(Next::End);
@@ -92,7 +106,7 @@ fn step(
 // Answers commands until the input ends, or MOST of them.
 fn main(rt: HostRuntime) -> io::Result<()> {
     let mut input = rt.reader();
-    let mut space = Vec::new(rt.alloc());
+    let mut space = [0u8; SPACE];
     let mut table = [0u64; WORDS];
     for _ in 0..MOST {
         match step(&rt, &mut input, &mut space, &mut table)? {
