@@ -3,7 +3,7 @@
 // at the start.
 #![tactic(auto)]
 
-ghost use Rattle.std.specs.Prelude.{◌≤◌, IfOk, length};
+ghost use Rattle.std.specs.Prelude.{◌≤◌, length};
 
 mod body;
 mod messages;
@@ -58,19 +58,22 @@ fn cut(head: usize, len: usize, got: usize) -> bool {
     (head < 2) | (got < len)
 }
 
-// Reads until the space is full or the input ends. Gives how many bytes stand at its front.
-fn fill(input: &mut impl Read, space: &mut [u8]) -> io::Result<usize>
-    ensures { IfOk result (λ count. count ≤ length space.new) }
+// Reads until the space is full or the input ends. Gives how many bytes stand at its front. A read that fails ends it too, and is kept.
+fn fill(input: &mut impl Read, space: &mut [u8], read: &mut io::Result<()>) -> usize
+    ensures { result ≤ length space.new }
 {
     let mut count = 0;
     while count < space.len() {
-        let got = input.read(&mut space[count..])?;
-        if got == 0 {
-            break;
+        match input.read(&mut space[count..]) {
+            Ok(0) => break,
+            Ok(got) => count += got,
+            Err(error) => {
+                *read = Err(error);
+                break;
+            }
         }
-        count += got;
     }
-    Ok(count)
+    count
 }
 
 // Reads one command into the space and answers it.
@@ -79,13 +82,14 @@ fn step(
     input: &mut impl Read,
     space: &mut [u8],
     table: &mut [u64; WORDS],
+    read: &mut io::Result<()>,
 ) -> io::Result<Next> {
-    let head = fill(input, body::part_mut(space, 2))?;
+    let head = fill(input, body::part_mut(space, 2), read);
     if head == 0 {
         return Ok(Next::End);
     }
     let len = body::word(space, 0) as usize;
-    let got = fill(input, body::part_mut(space, len))?;
+    let got = fill(input, body::part_mut(space, len), read);
     if cut(head, len, got) {
         print::word(rt, "cut\n")?;
         return Ok(Next::End);
@@ -108,12 +112,13 @@ fn main(rt: HostRuntime) -> io::Result<()> {
     let mut input = rt.reader();
     let mut space = [0u8; SPACE];
     let mut table = [0u64; WORDS];
+    let mut read = Ok(());
     for _ in 0..MOST {
-        match step(&rt, &mut input, &mut space, &mut table)? {
-            Next::End => return Ok(()),
+        match step(&rt, &mut input, &mut space, &mut table, &mut read)? {
+            Next::End => return read,
             Next::Go => {}
             Next::Empty => table = [0u64; WORDS],
         }
     }
-    Ok(())
+    read
 }

@@ -2,7 +2,7 @@
 // with how many ids are new by it and how many are duplicates, and last the least number; or the refusal.
 #![tactic(auto)]
 
-ghost use Rattle.std.specs.Prelude.{◌≡◌, ◌≤◌, length, IfOk};
+ghost use Rattle.std.specs.Prelude.{◌≡◌, ◌≤◌, length};
 ghost use Rattle.trial.specs.Lines.{tally_line};
 
 use lines::Figure;
@@ -40,24 +40,29 @@ fn tell(rt: &impl Print, tried: Tried) -> io::Result<()> {
     }
 }
 
-// Reads until the space is full or the input ends. Gives how many bytes stand at its front.
-fn fill(input: &mut impl Read, space: &mut [u8]) -> io::Result<usize>
-    ensures { IfOk result (λ count. count ≤ length space.new) }
+// Reads until the space is full or the input ends. Gives how many bytes stand at its front. A read that fails ends it too, and is kept.
+fn fill(input: &mut impl Read, space: &mut [u8], read: &mut io::Result<()>) -> usize
+    ensures { result ≤ length space.new }
 {
     let mut count = 0;
     while count < space.len() {
-        let got = input.read(&mut space[count..])?;
-        if got == 0 {
-            break;
+        match input.read(&mut space[count..]) {
+            Ok(0) => break,
+            Ok(got) => count += got,
+            Err(error) => {
+                *read = Err(error);
+                break;
+            }
         }
-        count += got;
     }
-    Ok(count)
+    count
 }
 
 // Up to 65,537 bytes are read; later bytes are not.
 fn main(rt: HostRuntime) -> io::Result<()> {
     let mut space = [0u8; SPACE];
-    let count = fill(&mut rt.reader(), &mut space)?;
-    tell(&rt, widths::trial(&space[..count]))
+    let mut read = Ok(());
+    let count = fill(&mut rt.reader(), &mut space, &mut read);
+    tell(&rt, widths::trial(&space[..count]))?;
+    read
 }
