@@ -13,13 +13,15 @@ use contract.Monad.{Fun, conj, fact}
 use contract.Lifetimes.{Lfts}
 use denote.Ref.{Bor}
 use denote.Triple.Clauses.{AtExit}
+use Rattle.std.specs.Prelude.{Result}
 use Rattle.message.specs.declared.value.Message.{Message}
+use Rattle.message.specs.declared.answers.Reason.{Reason}
 use Rattle.wire.proofs.One.{both}
 use Rattle.conditions.specs.contracts.bad_version as version
 use Rattle.conditions.specs.contracts.old_tunnel as tunnel
 use Rattle.conditions.specs.contracts.bad_encrypt as encrypt
 use Rattle.conditions.specs.contracts.bad_key_type as key_type
-use Rattle.conditions.specs.contracts.address_refusal as address
+use Rattle.conditions.specs.contracts.test_address as address
 use Rattle.conditions.specs.contracts.is_nobody as nobody
 use Rattle.conditions.specs.contracts.old_asks as asks
 use Rattle.conditions.specs.contracts.bad_packet as packet
@@ -46,10 +48,10 @@ module _ {M : Type 1} {𝓤 : Ura M} (𝓛 : Logic 𝓤) (at_mem : Memory → SP
       ent 𝓤 (conj 𝓤 (allows r) (allows s)) (fact 𝓤 (r ≡ s))
   one_bad_key_type k r s = both 𝓤 _ _ _ (λ e f. e ∙ sym f)
 
-  pub one_address_refusal : (m : Message) (r s : ℕ)
-      → let allows : ℕ → SProp 𝓤 = λ v. (address.clauses 𝓛 at_mem run tt (m, tt)).ensures tt v (m, tt) in
+  pub one_test_address : (m : Message) (r s : Result (Unit {0}) Reason)
+      → let allows : Result (Unit {0}) Reason → SProp 𝓤 = λ v. (address.clauses 𝓛 at_mem run tt (m, tt)).ensures tt v (m, tt) in
       ent 𝓤 (conj 𝓤 (allows r) (allows s)) (fact 𝓤 (r ≡ s))
-  one_address_refusal m r s = both 𝓤 _ _ _ (λ e f. e ∙ sym f)
+  one_test_address m r s = both 𝓤 _ _ _ (λ e f. e ∙ sym f)
 
   pub one_is_nobody : (n : ℕ) (r s : Bool)
       → let allows : Bool → SProp 𝓤 = λ v. (nobody.clauses 𝓛 at_mem run tt (n, tt)).ensures tt v (n, tt) in

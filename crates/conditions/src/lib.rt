@@ -2,10 +2,11 @@
 #![tactic(auto)]
 
 ghost use Rattle.std.specs.Prelude.{◌≡◌, ◌+◌, ◌≤◌};
-ghost use Rattle.message.specs.Order.{first};
+ghost use Rattle.message.specs.Order.{first, passed};
 ghost use Rattle.message.specs.Refusals.{bad_version, old_tunnel, bad_encrypt, bad_key_type, bad_key, nobody, bad_source, bad_destination, old_asks, bad_packet, other_length, bad_packet_length, address_order};
 
-use message::{Message, Refusal, layout};
+use message::{Message, Reason, layout};
+use wire::Number;
 
 // 3
 pub fn bad_version(version: u8) -> bool
@@ -64,20 +65,21 @@ fn bad_destination(destined: bool, destination: u64) -> bool
     destined & (destination == layout::NODE_NONE)
 }
 
-// The number of the refusal that the address fields decide, 7 to 9, or 0.
-pub fn address_refusal(m: Message) -> u8
-    ensures { result ≡ first (address_order m) }
+// The address fields: 7 to 9.
+#[tactic(auto, unfolding(message::specs::Refusals::address_order))]
+pub fn test_address(m: Message) -> Result<(), Reason>
+    ensures { result ≡ passed (first (address_order m)) }
 {
     if bad_key(m.encrypt, m.key) {
-        return Refusal::KEY;
+        return Err(Reason::Key);
     }
     if bad_source(m.sourced, m.source) {
-        return Refusal::SOURCE;
+        return Err(Reason::Source);
     }
     if bad_destination(m.destined, m.destination) {
-        return Refusal::DESTINATION;
+        return Err(Reason::Destination);
     }
-    0
+    Ok(())
 }
 
 // 11
@@ -105,14 +107,15 @@ fn has_other_length(packet: &[u8], header: usize, at: usize, uncounted: usize) -
         return true;
     }
     let given = wire::get_big16(&packet[at..at + layout::LENGTH_FIELD]);
-    given as usize + uncounted != packet.len()
+    usize::from(given) + uncounted != packet.len()
 }
 
 // 27, of a packet that 13 lets pass. Any other counts as IPv6, and an empty one is too short.
+#[tactic(auto, using(wire::proofs::Fronts::first_byte), unfolding(message::specs::Refusals::bad_packet_length))]
 pub fn bad_packet_length(packet: &[u8]) -> bool
     ensures { result ≡ bad_packet_length packet.now }
 {
-    if wire::get8(packet) / layout::FAMILY % 16 == layout::IPV4 {
+    if u8::get(packet) / layout::FAMILY % 16 == layout::IPV4 {
         return has_other_length(
             packet,
             layout::IPV4_HEADER,

@@ -1,98 +1,68 @@
 // The commands of the message format: READ, OUTER, WRITE, UNFRAME, FRAME.
-use crate::{body, print};
-use message::{OuterReading, Reading, Unframed, Writing};
+use crate::body::{Body, ROOM};
+use crate::fault::Fault;
+use crate::shown::{Bytes, Value, Written};
+use message::Unframed;
+use parts::Parts;
 use std::io;
-
-// The longest buffer that a command may ask for.
-pub(crate) const ROOM: usize = 1300;
 
 // What every byte of a buffer is before the call.
 pub(crate) const BEFORE: u8 = 0xa5;
 
-// A command that is unknown or not as it should be.
-pub(crate) fn bad(rt: &impl Print) -> io::Result<()> {
-    print::word(rt, "bad")
-}
-
 pub(crate) fn read(rt: &impl Print, message: &[u8]) -> io::Result<()> {
     let reading = reader::read(message);
+    let payload = Bytes(parts::payload(message, reading));
+    let check = Bytes(parts::check(message, reading));
     match reading {
-        Reading::Taken(m, _) => {
-            print::word(rt, "taken")?;
-            print::value(rt, m)?;
-        }
-        Reading::Refused(refusal) => print::refused(rt, refusal)?,
+        Ok(taken) => print!(rt; "taken{}{payload}{check}", Value(taken.message)),
+        Err(refusal) => print!(rt; "refused {refusal}{payload}{check}"),
     }
-    print::string(rt, parts::payload(message, reading))?;
-    print::string(rt, parts::check(message, reading))
 }
 
 pub(crate) fn outer(rt: &impl Print, message: &[u8]) -> io::Result<()> {
-    let reading = outer::read_outer(message);
-    match reading {
-        OuterReading::Protected(start, len) => {
-            print::word(rt, "outer")?;
-            print::number(rt, start as u64)?;
-            print::number(rt, len as u64)
-        }
-        OuterReading::Refused(refusal) => print::refused(rt, refusal),
+    match outer::read_outer(message) {
+        Ok((start, len)) => print!(rt; "outer {start} {len}"),
+        Err(refusal) => print!(rt; "refused {refusal}"),
     }
 }
 
-// What a writer answered, with a word for it where it wrote, and the buffer after it.
-pub(crate) fn written(
-    rt: &impl Print,
-    word: &str,
-    answer: Writing,
-    buffer: &[u8],
-) -> io::Result<()> {
-    match answer {
-        Writing::Written(n) => {
-            print::word(rt, word)?;
-            print::number(rt, n as u64)?;
-        }
-        Writing::Refused(refusal) => print::refused(rt, refusal)?,
-    }
-    print::string(rt, buffer)
-}
-
-pub(crate) fn write(rt: &impl Print, command: &[u8]) -> io::Result<()> {
-    let room = body::word(command, body::VALUE) as usize;
-    let len = body::word(command, body::VALUE + 2) as usize;
-    let start = body::VALUE + 4;
-    if (command.len() < start + len) | (ROOM < room) {
-        return bad(rt);
-    }
-    let payload = body::part(command, start, len);
-    let check = body::rest(command, start + len);
+pub(crate) fn write(rt: &impl Print, mut body: Body<'_>) -> Result<(), Fault> {
+    let m = body.value()?;
+    let room = body.room()?;
+    let len = usize::from(body.number::<u16>()?);
+    let parts = Parts {
+        payload: body.bytes(len)?,
+        check: body.left,
+    };
     let mut space = [BEFORE; ROOM];
-    let answer = writer::write(
-        body::value(command),
-        payload,
-        check,
-        body::part_mut(&mut space, room),
-    );
-    written(rt, "wrote", answer, body::part(&space, 0, room))
+    let buffer = &mut space[..room];
+    let answer = writer::write(m, parts, buffer);
+    rt.print(Written {
+        word: "wrote",
+        answer,
+        buffer,
+    })?;
+    Ok(())
 }
 
 pub(crate) fn unframe(rt: &impl Print, stream: &[u8]) -> io::Result<()> {
+    let message = Bytes(stream::framed_message(stream));
+    let rest = Bytes(stream::framed_rest(stream));
     match stream::unframe(stream) {
-        Unframed::Whole(_) => print::word(rt, "message")?,
-        Unframed::Incomplete(wanted) => {
-            print::word(rt, "incomplete")?;
-            print::number(rt, wanted as u64)?;
-        }
+        Unframed::Whole(_) => print!(rt; "message{message}{rest}"),
+        Unframed::Incomplete(wanted) => print!(rt; "incomplete {wanted}{message}{rest}"),
     }
-    print::string(rt, stream::framed_message(stream))?;
-    print::string(rt, stream::framed_rest(stream))
 }
 
-pub(crate) fn frame(rt: &impl Print, command: &[u8]) -> io::Result<()> {
-    let room = body::word(command, 0) as usize;
-    if (command.len() < 2) | (ROOM < room) {
-        return bad(rt);
-    }
+pub(crate) fn frame(rt: &impl Print, mut body: Body<'_>) -> Result<(), Fault> {
+    let room = body.room()?;
     let mut space = [BEFORE; ROOM];
-    let answer = stream::frame(body::rest(command, 2), body::part_mut(&mut space, room));
-    written(rt, "wrote", answer, body::part(&space, 0, room))
+    let buffer = &mut space[..room];
+    let answer = stream::frame(body.left, buffer);
+    rt.print(Written {
+        word: "wrote",
+        answer,
+        buffer,
+    })?;
+    Ok(())
 }

@@ -1,136 +1,91 @@
 // The commands of rows and of the table: ROLL, PUT, RECEIVE, REMOVE, ROWS.
-use crate::messages::bad;
-use crate::{body, messages, print};
-use reception::{Received, Removed};
+use crate::body::{Body, ROOM};
+use crate::fault::Fault;
+use crate::messages::BEFORE;
+use crate::shown::{Bytes, Fields, Numbered, Value};
+use reception::Delivery;
 use std::io;
 use table::WORDS;
 use window::{Row, Verdict};
 
-// How long a row record is.
-const RECORD: usize = 17;
-
-// The row record at the front of a text.
-fn record(text: &[u8]) -> Row {
-    Row {
-        used: body::flag(text, 0),
-        node: body::node(text, 1),
-        key: body::word(text, 9),
-        highest: body::double(text, 11),
-        marks: body::word(text, 15),
+fn word(verdict: Verdict) -> &'static str {
+    match verdict {
+        Verdict::New => "new",
+        Verdict::Duplicate => "duplicate",
     }
 }
 
-// A row's fields.
-fn shown(rt: &impl Print, row: Row) -> io::Result<()> {
-    print::flag(rt, row.used)?;
-    print::node(rt, row.node)?;
-    print::number16(rt, row.key)?;
-    print::number32(rt, row.highest)?;
-    print::number16(rt, row.marks)
+pub(crate) fn roll(rt: &impl Print, mut body: Body<'_>) -> Result<(), Fault> {
+    let row = body.row()?;
+    let rolled = row.rolled(body.number()?);
+    print!(rt; "{}{}", word(rolled.verdict), Fields(rolled.row))?;
+    Ok(())
 }
 
-fn verdict(rt: &impl Print, v: Verdict) -> io::Result<()> {
-    match v {
-        Verdict::New => print::word(rt, "new"),
-        Verdict::Duplicate => print::word(rt, "duplicate"),
+pub(crate) fn put(
+    rt: &impl Print,
+    mut body: Body<'_>,
+    table: &mut [u64; WORDS],
+) -> Result<(), Fault> {
+    let number = usize::from(body.number::<u8>()?);
+    let row = body.row()?;
+    if table::ROWS <= number {
+        return Err(Fault::Bad);
     }
+    table_rows::put_row(table, number, row);
+    rt.print("put")?;
+    Ok(())
 }
 
-pub(crate) fn roll(rt: &impl Print, command: &[u8]) -> io::Result<()> {
-    if command.len() < RECORD + 4 {
-        return bad(rt);
+pub(crate) fn receive(
+    rt: &impl Print,
+    mut body: Body<'_>,
+    table: &mut [u64; WORDS],
+) -> Result<(), Fault> {
+    let delivery = Delivery {
+        own: body.number()?,
+        link: body.number()?,
+        passed: body.flag()?,
+        id: body.number()?,
+    };
+    let room = body.room()?;
+    let mut space = [BEFORE; ROOM];
+    let buffer = &mut space[..room];
+    match reception::receive(delivery, body.left, table, buffer) {
+        Ok(received) => print!(rt;
+            "{} {}{}{}",
+            word(received.verdict),
+            received.reply,
+            Bytes(buffer),
+            Value(received.taken.message)
+        )?,
+        Err(refusal) => print!(rt; "refused {refusal}{}", Bytes(buffer))?,
     }
-    let rolled = record(command).rolled(body::double(command, RECORD));
-    let v = rolled.verdict;
-    let row = rolled.row;
-    verdict(rt, v)?;
-    shown(rt, row)
+    Ok(())
 }
 
-pub(crate) fn put(rt: &impl Print, command: &[u8], table: &mut [u64; WORDS]) -> io::Result<()> {
-    let number = body::byte(command, 0) as usize;
-    if (command.len() < 1 + RECORD) | (table::ROWS <= number) {
-        return bad(rt);
+pub(crate) fn remove(
+    rt: &impl Print,
+    mut body: Body<'_>,
+    table: &mut [u64; WORDS],
+) -> Result<(), Fault> {
+    let node = body.number()?;
+    let key = body.number()?;
+    match reception::remove(table, node, key) {
+        Ok(()) => rt.print("removed")?,
+        Err(refusal) => print!(rt; "refused {refusal}")?,
     }
-    table_rows::put_row(table, number, record(body::rest(command, 1)));
-    print::word(rt, "put")
+    Ok(())
 }
 
-// What receiving answered, and the buffer after it.
-fn received(rt: &impl Print, answer: Received, buffer: &[u8]) -> io::Result<()> {
-    match answer {
-        Received::New(m, _, n) => {
-            print::word(rt, "new")?;
-            print::number(rt, n as u64)?;
-            print::string(rt, buffer)?;
-            print::value(rt, m)
-        }
-        Received::Duplicate(m, _, n) => {
-            print::word(rt, "duplicate")?;
-            print::number(rt, n as u64)?;
-            print::string(rt, buffer)?;
-            print::value(rt, m)
-        }
-        Received::Refused(refusal) => {
-            print::refused(rt, refusal)?;
-            print::string(rt, buffer)
-        }
-    }
-}
-
-pub(crate) fn receive(rt: &impl Print, command: &[u8], table: &mut [u64; WORDS]) -> io::Result<()> {
-    let room = body::word(command, 21) as usize;
-    if (command.len() < 23) | (messages::ROOM < room) {
-        return bad(rt);
-    }
-    let own = body::node(command, 0);
-    let link = body::node(command, 8);
-    let passed = body::flag(command, 16);
-    let id = body::double(command, 17);
-    let mut space = [messages::BEFORE; messages::ROOM];
-    let answer = reception::receive(
-        own,
-        link,
-        passed,
-        id,
-        body::rest(command, 23),
-        table,
-        body::part_mut(&mut space, room),
-    );
-    received(rt, answer, body::part(&space, 0, room))
-}
-
-pub(crate) fn remove(rt: &impl Print, command: &[u8], table: &mut [u64; WORDS]) -> io::Result<()> {
-    if command.len() < 10 {
-        return bad(rt);
-    }
-    match reception::remove(table, body::node(command, 0), body::word(command, 8)) {
-        Removed::Done => print::word(rt, "removed"),
-        Removed::Refused(refusal) => print::refused(rt, refusal),
-    }
-}
-
-// One row, where any of its fields is not zero.
-fn listed(rt: &impl Print, number: usize, row: Row) -> io::Result<()> {
-    if !row.used & (row.node == 0) & (row.key == 0) & (row.highest == 0) & (row.marks == 0) {
-        return Ok(());
-    }
-    print::number(rt, number as u64)?;
-    if row.used {
-        print::word(rt, ":1:")?;
-    } else {
-        print::word(rt, ":0:")?;
-    }
-    print!(rt;
-        "{:016x}:{}:{}:{}",
-        row.node, row.key, row.highest, row.marks
-    )
-}
-
+// Each row of which any field is not zero.
 pub(crate) fn rows(rt: &impl Print, table: &[u64; WORDS]) -> io::Result<()> {
-    print::word(rt, "rows")?;
-    for number in 0..table::ROWS {
-        listed(rt, number, table_rows::row_at(table, number))?;
+    rt.print("rows")?;
+    for (number, words) in table::as_rows(table).iter().enumerate() {
+        let row = table::row_from(words);
+        if row != Row::FREE {
+            rt.print(Numbered(number, row))?;
+        }
     }
     Ok(())
 }

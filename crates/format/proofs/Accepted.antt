@@ -1,4 +1,5 @@
 -- What was read is not refused for writing, and has the length of the bytes. Assumes nothing.
+use Rattle.std.specs.Prelude.{Ok, None}
 use Prim.Native.Nat.{ℕ, ◌+◌, ◌-◌, ◌≤◌, ◌<◌}
 use mathlib.Core.Path.{◌≡◌, refl, ap, ap₂, subst, ◌∙◌}
 use mathlib.Core.Bool.{Bool, true, false, not, ◌&&◌, ◌||◌, cond}
@@ -20,11 +21,10 @@ use Rattle.parts.specs.Parts.{payload_of, check_of}
 use Rattle.judge.specs.Writing.{writing_order, write_of}
 use Rattle.message.specs.declared.value.Message.{Message}
 use Rattle.message.specs.Answers.{as_taken}
-use Rattle.message.specs.declared.answers.Writing.TheVariants.{Written}
 use Rattle.message.proofs.Logic.{when_true}
 use Rattle.reader.proofs.Clear.{Clear, taken, fits}
 use Rattle.message.proofs.Lengths.{total_is}
-use Rattle.format.proofs.Taken as parts
+use Rattle.format.proofs.TakenParts as parts
 
 -- a field that is zero where it is absent is no stray one
 kept : (b : Bool) (x : ℕ) → (b ≡ false → x ≡ 0) → (not b && not (eqb x 0)) ≡ false
@@ -122,19 +122,19 @@ module _ (bs : List ℕ) (e : read_of bs ≡ as_taken (message_of bs)) where
   unfolding stray
   no_stray = ap₂ ◌||◌ (ap₂ ◌||◌ no_stray_address no_stray_exchange) (ap not (eq-eqb _ _ (parts.check_length_lem bs (message_of bs) e)))
 
-  write_zero : (room : ℕ) → length bs ≤ room → first (writing_order (message_of bs) (payload_of bs (read_of bs)) (check_of bs (read_of bs)) room) ≡ 0
+  none_refused : (room : ℕ) → length bs ≤ room → first (writing_order (message_of bs) (payload_of bs (read_of bs)) (check_of bs (read_of bs)) room) ≡ None
   unfolding writing_order
-  write_zero room h =
+  none_refused room h =
       let o = k.outer in
       simp (o.version, o.tunnel, o.encrypt, o.key, o.source, o.destination, asks, empty, packet, sized, no_stray, length_is, le-ltb _ _ k.outer.short, le-ltb _ _ h)
 
-  accepted : (room : ℕ) → length bs ≤ room → write_of (message_of bs) (payload_of bs (read_of bs)) (check_of bs (read_of bs)) room ≡ Written (length bs)
+  accepted : (room : ℕ) → length bs ≤ room → write_of (message_of bs) (payload_of bs (read_of bs)) (check_of bs (read_of bs)) room ≡ Ok (length bs)
   unfolding write_of
-  accepted room h = ap₂ writing (write_zero room h) length_is
+  accepted room h = ap₂ writing (none_refused room h) length_is
 
 -- what was read is written, given room, and as many bytes as were read
 pub accept : (bs : List ℕ) (m : Message) (room : ℕ) → read_of bs ≡ as_taken m → length bs ≤ room
-    → write_of m (payload_of bs (read_of bs)) (check_of bs (read_of bs)) room ≡ Written (length bs)
+    → write_of m (payload_of bs (read_of bs)) (check_of bs (read_of bs)) room ≡ Ok (length bs)
 accept bs m room e h =
-    subst (λ (v : Message). read_of bs ≡ as_taken v → write_of v (payload_of bs (read_of bs)) (check_of bs (read_of bs)) room ≡ Written (length bs)) (taken bs m e).0
+    subst (λ (v : Message). read_of bs ≡ as_taken v → write_of v (payload_of bs (read_of bs)) (check_of bs (read_of bs)) room ≡ Ok (length bs)) (taken bs m e).0
     (λ f. accepted bs f room h) e

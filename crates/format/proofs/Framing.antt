@@ -1,5 +1,6 @@
 -- Framed, then unframed, and back; and what the bytes wanted do. Assumes nothing.
-use Prim.Native.Nat.{ℕ, zero, suc, ◌+◌, ◌-◌, ◌≤◌, ◌<◌}
+use Rattle.std.specs.Prelude.{Option, Some, None, Ok, Err}
+use Prim.Native.Nat.{ℕ, ◌+◌, ◌-◌, ◌≤◌, ◌<◌}
 use mathlib.Core.Path.{◌≡◌, refl, sym, ap, ap₂, ◌∙◌}
 use mathlib.Core.List.{List, ◌++◌, append_assoc}
 use native.Mathlib.Omega.{arith}
@@ -10,11 +11,13 @@ use Rattle.wire.specs.Bytes.{part, little, little_bytes}
 use Rattle.wire.proofs.Digits.{AllBytes, little_of}
 use Rattle.wire.proofs.Fronts.{part_take}
 use Rattle.wire.proofs.Parts.{part_front, little_back}
+use Rattle.message.specs.Reasons.{refusal}
 use Rattle.message.specs.Answers.{writing}
+use Rattle.message.specs.declared.answers.Reason.{Reason}
+use Rattle.message.specs.declared.answers.Refusal.{Refusal}
 use Rattle.message.proofs.Order.{none_first}
 use Rattle.message.specs.declared.answers.Unframed.{Unframed}
 use Rattle.message.specs.declared.answers.Unframed.TheVariants.{Whole, Incomplete}
-use Rattle.message.specs.declared.answers.Writing.TheVariants.{Written}
 use Rattle.stream.specs.Stream.{demanded, wanted, unframe_of, message_in, rest_in, framed_message, framed_rest, frame_bytes, framing_order, frame_of}
 use Rattle.stream.proofs.Streams.{wanted_short, wanted_long, unframe_wants, unframe_whole, whole_there}
 
@@ -101,19 +104,24 @@ module _ (stream : List ℕ) (all : AllBytes stream) (n : ℕ) (e : unframe_of s
       ∙ take-append-drop (2 + n) stream
 
 -- a message of at most 1,232 bytes is framed where there is room
-pub framing_taken : (message : List ℕ) (room : ℕ) → length message ≤ 1232 → 2 + length message ≤ room → frame_of message room ≡ Written (2 + length message)
+pub framing_taken : (message : List ℕ) (room : ℕ) → length message ≤ 1232 → 2 + length message ≤ room → frame_of message room ≡ Ok (2 + length message)
 unfolding frame_of framing_order
 framing_taken message room s h = simp (le-ltb _ _ s, le-ltb _ _ h)
 
-written_number : (k t n : ℕ) → writing k t ≡ Written n → k ≡ 0
-written_number zero t n e = refl
-written_number (suc k) t n e = let z : ◌≡◌ {A = ℕ} 0 1 = cc in let w : ⊥ = omega arith in absurd w
+-- what an answer of writing or framing tells: nothing refused it, or this did
+pub writing_ok : (o : Option Reason) (len n : ℕ) → writing o len ≡ Ok n → o ≡ None
+writing_ok None len n e = refl
+writing_ok (Some reason) len n e = let z : ◌≡◌ {A = ℕ} 0 1 = cc in let w : ⊥ = omega arith in absurd w
+
+pub writing_err : (o : Option Reason) (len : ℕ) (reason : Reason) → writing o len ≡ Err (refusal reason) → o ≡ Some reason
+writing_err None len reason e = let z : ◌≡◌ {A = ℕ} 0 1 = cc in let w : ⊥ = omega arith in absurd w
+writing_err (Some given) len reason e = let same : refusal given ≡ refusal reason = cc in ap (λ (r : Refusal). Some r.reason) same
 
 -- what is framed is short enough for its length field
-pub framed_short : (message : List ℕ) (room n : ℕ) → frame_of message room ≡ Written n → length message < 65536
+pub framed_short : (message : List ℕ) (room n : ℕ) → frame_of message room ≡ Ok n → length message < 65536
 unfolding frame_of framing_order
 framed_short message room n e =
-    let k : length message ≤ 1232 = ltb-false _ _ (none_first (framing_order message room) refl (written_number _ _ n e)).0 in
+    let k : length message ≤ 1232 = ltb-false _ _ (none_first (framing_order message room) (writing_ok _ _ n e)).0 in
     omega arith
 
 -- ---- what is wanted

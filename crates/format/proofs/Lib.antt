@@ -1,4 +1,4 @@
-pub mod Taken
+pub mod TakenParts
 pub mod HeaderBack
 pub mod HeaderForth
 pub mod ReadWrite

@@ -1,20 +1,25 @@
 -- Where a refusal of reading points: at the end where bytes are missing, else at the first byte of the field at fault, which is within the
 -- message. Assumes nothing.
+use Rattle.std.specs.Prelude.{Some}
 use Prim.Native.Nat.{ℕ, ◌+◌, ◌≤◌, ◌<◌}
 use mathlib.Core.Path.{◌≡◌, refl, ap, subst}
 use mathlib.Core.Bool.{Bool, true, false, not, ◌||◌, cond}
 use mathlib.Core.List.{List, [], ◌∷◌}
-use mathlib.Core.Logic.{◌⊎◌, inl, inr, ⊎_elim}
 use native.Mathlib.Omega.{arith}
 use borrow.Author.Tests.{ltb-true, ltb-false, eqb-true}
 use lib.Dec.{eqb}
 use lib.ListN.{length, get_or}
 use Rattle.wire.specs.Bytes.{part, little, big}
-use Rattle.message.specs.Order.{Condition, condition, first_refusal, first}
+use Rattle.message.specs.Reasons.{number}
+use Rattle.message.specs.Order.{Condition, condition, first_refusal}
 use Rattle.message.specs.Layout.{only, longest, source_at, destination_at, key_at, encrypted, body_of, fixed_length, up_to_check}
 use Rattle.message.specs.Value.{bit, header, exchange_header, address_of, exchanged_by, message_of}
 use Rattle.message.specs.Refusals.{bad_version, reserved, old_tunnel, bad_encrypt, bad_key_type, bad_key, nobody, bad_source, bad_destination, bad_exchange, old_asks, bad_tunnel, bad_packet, bad_packet_length, no_room}
+use Rattle.message.specs.declared.answers.Reason.{Reason}
+use Rattle.message.specs.declared.answers.Reason.TheVariants.{TooLong, TooShort, Version, Reserved, OldTunnel, Encrypt, Key, Source, Destination, Exchange, OldAsks, Tunnel, Packet, PacketLength}
+use Rattle.message.specs.declared.answers.Refusal.{Refusal}
 use Rattle.message.proofs.Logic.{and_true}
+use Rattle.message.proofs.Order.{none_some, same_some}
 use Rattle.outer.specs.Outer.{outer_order}
 use Rattle.reader.specs.Reading.{exchange_order, tunnel_order, body_order, reading_order}
 
@@ -28,46 +33,46 @@ destination_in bytes = destination_at (message_of bytes).sourced
 abbrev body_in : List ℕ → ℕ
 body_in bytes = body_of (message_of bytes)
 
--- a refusal's number and offset, and what is in the bytes where it points; from 7 on: the field that stands there is present, its bytes are there,
--- and it is at fault
-pub data AtFault (bytes : List ℕ) : ℕ → ℕ → Type 0 where
+-- a refusal's reason and offset, and what is in the bytes where it points; from number 7 on: the field that stands there is present, its bytes are
+-- there, and it is at fault
+pub data AtFault (bytes : List ℕ) : Reason → ℕ → Type 0 where
   -- the longest message would end there
-  too_long : longest < length bytes → AtFault bytes 1 longest
+  too_long : longest < length bytes → AtFault bytes TooLong longest
   -- the bytes end there: they are less than the header, or than the fixed part, or A has no room
-  no_header : length bytes < 2 → AtFault bytes 2 (length bytes)
-  too_short : length bytes < fixed_length (message_of bytes) → AtFault bytes 2 (length bytes)
-  no_place : no_room (length bytes) (message_of bytes) ≡ true → AtFault bytes 2 (length bytes)
+  no_header : length bytes < 2 → AtFault bytes TooShort (length bytes)
+  too_short : length bytes < fixed_length (message_of bytes) → AtFault bytes TooShort (length bytes)
+  no_place : no_room (length bytes) (message_of bytes) ≡ true → AtFault bytes TooShort (length bytes)
   -- the header: another version than 1 and 2, a reserved bit, T in version 1, another encrypt type than 0 and 1
-  version : 2 ≤ length bytes → bad_version (message_of bytes).version ≡ true → AtFault bytes 3 0
-  reserve : 2 ≤ length bytes → reserved (header bytes) ≡ true → AtFault bytes 4 0
-  old : 2 ≤ length bytes → old_tunnel (message_of bytes).version (message_of bytes).tunnelled ≡ true → AtFault bytes 5 0
-  encrypt : 2 ≤ length bytes → bad_encrypt (message_of bytes).encrypt ≡ true → AtFault bytes 6 0
+  version : 2 ≤ length bytes → bad_version (message_of bytes).version ≡ true → AtFault bytes Version 0
+  reserve : 2 ≤ length bytes → reserved (header bytes) ≡ true → AtFault bytes Reserved 0
+  old : 2 ≤ length bytes → old_tunnel (message_of bytes).version (message_of bytes).tunnelled ≡ true → AtFault bytes OldTunnel 0
+  encrypt : 2 ≤ length bytes → bad_encrypt (message_of bytes).encrypt ≡ true → AtFault bytes Encrypt 0
   -- a key id of another type than 1 and 2
-  key : encrypted (message_of bytes) ≡ true → key_in bytes + 2 ≤ length bytes → bad_key_type (little (part bytes (key_in bytes) 2)) ≡ true → AtFault bytes 7 (key_in bytes)
+  key : encrypted (message_of bytes) ≡ true → key_in bytes + 2 ≤ length bytes → bad_key_type (little (part bytes (key_in bytes) 2)) ≡ true → AtFault bytes Key (key_in bytes)
   -- a source that is nobody's
-  source : (message_of bytes).sourced ≡ true → source_at + 8 ≤ length bytes → nobody (big (part bytes source_at 8)) ≡ true → AtFault bytes 8 source_at
+  source : (message_of bytes).sourced ≡ true → source_at + 8 ≤ length bytes → nobody (big (part bytes source_at 8)) ≡ true → AtFault bytes Source source_at
   -- a destination that is all zero
   destination : (message_of bytes).destined ≡ true → destination_in bytes + 8 ≤ length bytes → big (part bytes (destination_in bytes) 8) ≡ 0
-      → AtFault bytes 9 (destination_in bytes)
+      → AtFault bytes Destination (destination_in bytes)
   -- an exchange header with F zero or a reserved bit set
   exchange : (message_of bytes).tunnelled ≡ false → body_in bytes + 1 ≤ length bytes → bad_exchange (little (part bytes (body_in bytes) 1)) ≡ true
-      → AtFault bytes 10 (body_in bytes)
+      → AtFault bytes Exchange (body_in bytes)
   -- one with A or R, in version 1
   asks : (message_of bytes).tunnelled ≡ false → body_in bytes + 1 ≤ length bytes → (message_of bytes).version ≡ 1
       → (bit (little (part bytes (body_in bytes) 1)) 1 || bit (little (part bytes (body_in bytes) 1)) 2) ≡ true
-      → AtFault bytes 11 (body_in bytes)
+      → AtFault bytes OldAsks (body_in bytes)
   -- a tunnel version other than 1
-  tunnel : (message_of bytes).tunnelled ≡ true → body_in bytes + 1 ≤ length bytes → bad_tunnel (get_or bytes (body_in bytes) 0) ≡ true → AtFault bytes 12 (body_in bytes)
+  tunnel : (message_of bytes).tunnelled ≡ true → body_in bytes + 1 ≤ length bytes → bad_tunnel (get_or bytes (body_in bytes) 0) ≡ true → AtFault bytes Tunnel (body_in bytes)
   -- the first byte of a packet that is neither IPv4 nor IPv6
   packet : (message_of bytes).tunnelled ≡ true → body_in bytes + 1 + 1 ≤ length bytes → bad_packet (get_or bytes (body_in bytes + 1) 0) ≡ true
-      → AtFault bytes 13 (body_in bytes + 1)
+      → AtFault bytes Packet (body_in bytes + 1)
   -- the first byte of one that is shorter than its own header, or of another length than that gives
   packet_length : (message_of bytes).tunnelled ≡ true → body_in bytes + 1 + 1 ≤ length bytes → bad_packet_length (up_to_check (message_of bytes) (body_in bytes + 1) bytes) ≡ true
-      → AtFault bytes 27 (body_in bytes + 1)
+      → AtFault bytes PacketLength (body_in bytes + 1)
 
 -- ---- within the message
 
-pub within : (bytes : List ℕ) {n k : ℕ} → AtFault bytes n k → (k ≤ length bytes) × (7 ≤ n → k < length bytes)
+pub within : (bytes : List ℕ) {reason : Reason} {k : ℕ} → AtFault bytes reason k → (k ≤ length bytes) × (7 ≤ number reason → k < length bytes)
 within bytes (too_long l) = (omega arith, λ s. absurd (omega arith))
 within bytes (no_header l) = (omega arith, λ s. absurd (omega arith))
 within bytes (too_short l) = (omega arith, λ s. absurd (omega arith))
@@ -88,21 +93,21 @@ within bytes (packet_length p l e) = (omega arith, λ s. omega arith)
 -- ---- the fields
 
 module _ (bytes : List ℕ) (fixed : fixed_length (message_of bytes) ≤ length bytes) where
-  at_key : bad_key (message_of bytes).encrypt (message_of bytes).key ≡ true → AtFault bytes 7 (key_in bytes)
+  at_key : bad_key (message_of bytes).encrypt (message_of bytes).key ≡ true → AtFault bytes Key (key_in bytes)
   unfolding message_of exchanged_by address_of
   at_key e =
       let p = and_true (eqb (message_of bytes).encrypt 1) (bad_key_type (message_of bytes).key) e in
       key p.0 (let w : only (eqb (message_of bytes).encrypt 1) 2 ≡ 2 = ap (λ (b : Bool). only b 2) p.0 in omega (arith, fixed))
       (subst (λ (b : Bool). bad_key_type (little (part bytes (key_in bytes) (only b 2))) ≡ true) p.0 p.1)
 
-  at_source : bad_source (message_of bytes).sourced (message_of bytes).source ≡ true → AtFault bytes 8 source_at
+  at_source : bad_source (message_of bytes).sourced (message_of bytes).source ≡ true → AtFault bytes Source source_at
   unfolding message_of exchanged_by address_of
   at_source e =
       let p = and_true (message_of bytes).sourced (nobody (message_of bytes).source) e in
       source p.0 (let w : only (message_of bytes).sourced 8 ≡ 8 = ap (λ (b : Bool). only b 8) p.0 in omega (arith, fixed))
       (subst (λ (b : Bool). nobody (big (part bytes source_at (only b 8))) ≡ true) p.0 p.1)
 
-  at_destination : bad_destination (message_of bytes).destined (message_of bytes).destination ≡ true → AtFault bytes 9 (destination_in bytes)
+  at_destination : bad_destination (message_of bytes).destined (message_of bytes).destination ≡ true → AtFault bytes Destination (destination_in bytes)
   unfolding message_of exchanged_by address_of
   at_destination e =
       let p = and_true (message_of bytes).destined (eqb (message_of bytes).destination 0) e in
@@ -117,10 +122,10 @@ module _ (bytes : List ℕ) (fixed : fixed_length (message_of bytes) ≤ length 
     unfolding message_of exchanged_by address_of
     header_is = ap (λ (b : Bool). little (part bytes (body_in bytes) (only (not b) 1))) general
 
-    at_exchange : bad_exchange (exchange_header bytes) ≡ true → AtFault bytes 10 (body_in bytes)
+    at_exchange : bad_exchange (exchange_header bytes) ≡ true → AtFault bytes Exchange (body_in bytes)
     at_exchange e = exchange general room (subst (λ (x : ℕ). bad_exchange x ≡ true) header_is e)
 
-    at_asks : old_asks (message_of bytes).version (message_of bytes).acknowledges (message_of bytes).wants ≡ true → AtFault bytes 11 (body_in bytes)
+    at_asks : old_asks (message_of bytes).version (message_of bytes).acknowledges (message_of bytes).wants ≡ true → AtFault bytes OldAsks (body_in bytes)
     unfolding message_of exchanged_by address_of
     at_asks e =
         let p = and_true (eqb (message_of bytes).version 1) ((message_of bytes).acknowledges || (message_of bytes).wants) e in
@@ -133,14 +138,14 @@ module _ (bytes : List ℕ) (fixed : fixed_length (message_of bytes) ≤ length 
 
 -- the first condition of an order to hold points at what is at fault, if there is one
 record Points (bytes : List ℕ) (order : List Condition) : Type 0 where
-  points : (first order ≡ 0) ⊎ AtFault bytes (first_refusal order).number (first_refusal order).offset
+  points : (r : Refusal) → first_refusal order ≡ Some r → AtFault bytes r.reason r.offset
 
 none : {bytes : List ℕ} → Points bytes []
-none = record { points = inl refl }
+none = record { points = λ r e. none_some e }
 
-either : {bytes : List ℕ} {n k : ℕ} {holds : Bool} {rest : List Condition}
-    → (holds ≡ true → AtFault bytes n k) → (holds ≡ false → Points bytes rest) → Points bytes (condition n holds k ∷ rest)
-either {holds = true} here later = record { points = inr (here refl) }
+either : {bytes : List ℕ} {reason : Reason} {k : ℕ} {holds : Bool} {rest : List Condition}
+    → (holds ≡ true → AtFault bytes reason k) → (holds ≡ false → Points bytes rest) → Points bytes (condition reason holds k ∷ rest)
+either {bytes} {holds = true} here later = record { points = λ r e. subst (λ (q : Refusal). AtFault bytes q.reason q.offset) (same_some e) (here refl) }
 either {holds = false} here later = record { points = (later refl).points }
 
 module _ (bytes : List ℕ) where
@@ -167,5 +172,5 @@ module _ (bytes : List ℕ) where
       (λ _. either (at_destination bytes (ltb-false _ _ short))
       (λ _. by_kind (ltb-false _ _ short) (message_of bytes).tunnelled refl))))))))))
 
-  pub at_fault : (first (reading_order bytes) ≡ 0 → ⊥) → AtFault bytes (first_refusal (reading_order bytes)).number (first_refusal (reading_order bytes)).offset
-  at_fault h = ⊎_elim (λ z. absurd (h z)) (λ f. f) in_order.points
+  pub at_fault : (r : Refusal) → first_refusal (reading_order bytes) ≡ Some r → AtFault bytes r.reason r.offset
+  at_fault = in_order.points

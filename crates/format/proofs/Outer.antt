@@ -1,28 +1,25 @@
 -- Where the protected part of a message lies. Assumes nothing.
+use Rattle.std.specs.Prelude.{Option, None, Ok}
 use Prim.Native.Nat.{ℕ, ◌+◌, ◌-◌, ◌≤◌}
 use mathlib.Core.Path.{◌≡◌, refl, sym, ap, ◌∙◌}
 use mathlib.Core.Bool.{Bool, true, false, cond}
 use mathlib.Core.List.{List}
 use native.Mathlib.Omega.{arith}
-use borrow.Author.Tests.{eqb-true}
-use lib.Dec.{eqb}
 use lib.ListN.{length}
-use Rattle.message.specs.Order.{first}
+use Rattle.message.specs.Order.{reason_of, first}
 use Rattle.message.specs.Layout.{only, encrypted, body_of, fixed_length}
 use Rattle.message.specs.Value.{address_of, exchanged_by, message_of}
 use Rattle.message.specs.Answers.{outer_reading}
 use Rattle.message.specs.declared.answers.Refusal.{Refusal}
-use Rattle.message.specs.declared.answers.OuterReading.TheVariants.{Protected, Refused}
+use Rattle.message.proofs.Writings.{unless_ok}
 use Rattle.outer.specs.Outer.{outer_order, start_of}
 use Rattle.outer.proofs.Beginning.{outer_fixed}
 
 -- an answer with a part was made of no refusal and that part
-pub outer_place : (r : Refusal) (s l start len : ℕ) → outer_reading r s l ≡ Protected start len → (r.number ≡ 0) × (s ≡ start) × (l ≡ len)
-outer_place r s l start len e = let p = go (eqb r.number 0) e in (eqb-true _ _ p.0, p.1, p.2)
-  where
-    go : (b : Bool) → cond b (Protected s l) (Refused r) ≡ Protected start len → (b ≡ true) × (s ≡ start) × (l ≡ len)
-    go true e = (refl, cc, cc)
-    go false e = let z : ◌≡◌ {A = ℕ} 0 1 = cc in let w : ⊥ = omega arith in absurd w
+pub outer_place : (r : Option Refusal) (s l start len : ℕ) → outer_reading r s l ≡ Ok (start, len) → (reason_of r ≡ None) × (s ≡ start) × (l ≡ len)
+outer_place r s l start len e =
+    let (none, same) = unless_ok r (s, l) (start, len) e in
+    (ap reason_of none, ap (λ (p : ℕ × ℕ). p.0) same, ap (λ (p : ℕ × ℕ). p.1) same)
 
 -- the part of len bytes from start on, for the bytes of a message
 pub record Protects (bytes : List ℕ) (start len : ℕ) : Type 0 where
@@ -35,11 +32,11 @@ pub record Protects (bytes : List ℕ) (start len : ℕ) : Type 0 where
   -- of a plain message it is empty
   pub plain : encrypted (message_of bytes) ≡ false → len ≡ 0
 
-fixed_part : (bytes : List ℕ) → first (outer_order bytes (message_of bytes)) ≡ 0 → fixed_length (message_of bytes) ≤ length bytes
+fixed_part : (bytes : List ℕ) → first (outer_order bytes (message_of bytes)) ≡ None → fixed_length (message_of bytes) ≤ length bytes
 unfolding message_of exchanged_by address_of
 fixed_part bytes z = outer_fixed bytes z
 
-pub protects : (bytes : List ℕ) (start len : ℕ) → first (outer_order bytes (message_of bytes)) ≡ 0 → start_of bytes (message_of bytes) ≡ start
+pub protects : (bytes : List ℕ) (start len : ℕ) → first (outer_order bytes (message_of bytes)) ≡ None → start_of bytes (message_of bytes) ≡ start
     → length bytes - start_of bytes (message_of bytes) ≡ len → Protects bytes start len
 protects bytes start len z s l =
     record {

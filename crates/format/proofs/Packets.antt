@@ -1,5 +1,6 @@
 -- A packet has the length that its own header gives. So a tunnelled message that was taken has no byte after its packet, and with bytes more or
 -- fewer the packet is refused. Assumes nothing.
+use Rattle.std.specs.Prelude.{Option, Some, Ok, Err}
 use Prim.Native.Nat.{ℕ, suc, ◌+◌, ◌≤◌, ◌<◌}
 use mathlib.Core.Path.{◌≡◌, refl, sym, ap, ap₂, subst, ◌∙◌}
 use mathlib.Core.Bool.{Bool, true, false, not, ◌&&◌, ◌||◌, cond}
@@ -13,10 +14,11 @@ use Rattle.message.specs.Order.{first}
 use Rattle.message.specs.Layout.{only, longest, body_of, head_length, check_length, up_to_check}
 use Rattle.message.specs.Value.{bits, bytes_of}
 use Rattle.message.specs.Refusals.{bad_packet, other_length, bad_packet_length, empty_packet, wrong_packet, wrong_packet_length, total}
-use Rattle.message.specs.Answers.{refusal, as_taken, writing}
+use Rattle.message.specs.Reasons.{refusal}
+use Rattle.message.specs.Answers.{as_taken, writing}
 use Rattle.message.specs.declared.value.Message.{Message}
-use Rattle.message.specs.declared.answers.Reading.TheVariants as Reading
-use Rattle.message.specs.declared.answers.Writing.TheVariants as Writing
+use Rattle.message.specs.declared.answers.Reason.{Reason}
+use Rattle.message.specs.declared.answers.Reason.TheVariants.{PacketLength}
 use Rattle.message.proofs.Logic.{or_false, and_false, when_true}
 use Rattle.reader.specs.Reading.{read_of}
 use Rattle.reader.proofs.Clear.{fits}
@@ -25,7 +27,7 @@ use Rattle.judge.specs.Writing.{writing_order, write_of}
 use Rattle.judge.proofs.Clear.{ClearWrite, written, written_sized}
 use Rattle.format.proofs.Accepted.{accept}
 use Rattle.format.proofs.Sized.{Sized}
-use Rattle.format.proofs.Taken.{payload_is, payload_length}
+use Rattle.format.proofs.TakenParts.{payload_is, payload_length}
 use Rattle.format.proofs.WriteRead.{read_refused}
 
 -- ---- whole packets
@@ -128,8 +130,8 @@ module _ (p q : List ℕ) (agree : Agree p q) (differ : length p ≡ length q �
 
 -- a value with another packet is refused for its length: to be written with 27, whatever the room, and read with 27 at the packet's first byte
 pub record LengthRefused (m : Message) (packet check : List ℕ) : Type 0 where
-  pub writing : (room : ℕ) → write_of m packet check room ≡ Writing.Refused (refusal 27)
-  pub reading : total m packet ≤ longest → read_of (bytes_of m packet check) ≡ Reading.Refused (record { number = 27; offset = body_of m + 1 })
+  pub writing : (room : ℕ) → write_of m packet check room ≡ Err (refusal PacketLength)
+  pub reading : total m packet ≤ longest → read_of (bytes_of m packet check) ≡ Err (record { reason = PacketLength; offset = body_of m + 1 })
 
 module _ (m : Message) (p q c : List ℕ) (room : ℕ) (z : Sized m) (t : m.tunnelled ≡ true) (k : ClearWrite m p c room) (some : 0 < length q) (starts : get_or p 0 0 ≡ get_or q 0 0) where
   empty : empty_packet m q ≡ false
@@ -160,7 +162,7 @@ module _ (m : Message) (p q c : List ℕ) (room : ℕ) (z : Sized m) (t : m.tunn
   wrong : bad_packet_length q ≡ true → wrong_packet_length m q ≡ true
   wrong e = ap₂ ◌&&◌ t e
 
-  first_is : bad_packet_length q ≡ true → (room : ℕ) → first (writing_order m q c room) ≡ 27
+  first_is : bad_packet_length q ≡ true → (room : ℕ) → first (writing_order m q c room) ≡ Some PacketLength
   unfolding writing_order
   first_is e room = simp (k.version, k.tunnel, k.encrypt, k.key, k.source, k.destination, k.asks, empty, packet, wrong e)
 
@@ -168,11 +170,11 @@ module _ (m : Message) (p q c : List ℕ) (room : ℕ) (z : Sized m) (t : m.tunn
   unfolding write_of
   refused e =
       record {
-        writing = λ room. ap (λ (n : ℕ). writing n (total m q)) (first_is e room);
+        writing = λ room. ap (λ (o : Option Reason). writing o (total m q)) (first_is e room);
         reading = λ short. read_refused m q c (total m q) z (cleared short) (wrong e);
       }
 
-module _ (m : Message) (p q c : List ℕ) (room n : ℕ) (z : Sized m) (t : m.tunnelled ≡ true) (w : write_of m p c room ≡ Writing.Written n) where
+module _ (m : Message) (p q c : List ℕ) (room n : ℕ) (z : Sized m) (t : m.tunnelled ≡ true) (w : write_of m p c room ≡ Ok n) where
   resized : Agree p q → (length p ≡ length q → ⊥) → 0 < length q → LengthRefused m q c
   resized agree differ some =
       let k = (written m p c room n w).1 in
@@ -181,13 +183,13 @@ module _ (m : Message) (p q c : List ℕ) (room n : ℕ) (z : Sized m) (t : m.tu
       (other_length_lem p q agree differ some (and_false m.tunnelled _ (written_sized m p c room n w) t))
 
 -- a packet that was written, with bytes behind it; and one whose last bytes are missing
-pub padded : (m : Message) (packet tail check : List ℕ) (room n : ℕ) → Sized m → m.tunnelled ≡ true → write_of m packet check room ≡ Writing.Written n
+pub padded : (m : Message) (packet tail check : List ℕ) (room n : ℕ) → Sized m → m.tunnelled ≡ true → write_of m packet check room ≡ Ok n
     → 0 < length tail → LengthRefused m (packet ++ tail) check
 padded m packet tail check room n z t w some =
     let l = length-append packet tail in
     resized m packet (packet ++ tail) check room n z t w (λ i h _. sym (get_or-append packet tail 0 i h)) (λ e. omega arith) (omega arith)
 
-pub cut : (m : Message) (packet tail check : List ℕ) (room n : ℕ) → Sized m → m.tunnelled ≡ true → write_of m (packet ++ tail) check room ≡ Writing.Written n
+pub cut : (m : Message) (packet tail check : List ℕ) (room n : ℕ) → Sized m → m.tunnelled ≡ true → write_of m (packet ++ tail) check room ≡ Ok n
     → 0 < length tail → 0 < length packet → LengthRefused m packet check
 cut m packet tail check room n z t w some there =
     let l = length-append packet tail in

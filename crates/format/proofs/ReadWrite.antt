@@ -21,7 +21,7 @@ use Rattle.message.specs.declared.value.Message.{Message}
 use Rattle.message.specs.Answers.{as_taken}
 use Rattle.reader.proofs.Clear.{Clear, taken, fits}
 use Rattle.format.proofs.HeaderBack.{header_back, exchange_back}
-use Rattle.format.proofs.Taken.{payload_is, check_is}
+use Rattle.format.proofs.TakenParts.{payload_is, check_is}
 
 -- parts that follow one another
 join : (bs : List ℕ) (s n w : ℕ) {a b : List ℕ} → a ≡ part bs s n → b ≡ part bs (s + n) w → a ++ b ≡ part bs s (n + w)

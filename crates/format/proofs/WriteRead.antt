@@ -1,4 +1,5 @@
 -- What was written reads back to the same value and parts: nothing refuses it. Assumes nothing.
+use Rattle.std.specs.Prelude.{Ok, Err, None}
 use Prim.Native.Nat.{ℕ, ◌+◌, ◌-◌, ◌≤◌, ◌<◌}
 use mathlib.Core.Path.{◌≡◌, refl, sym, ap, ap₂, ◌∙◌}
 use mathlib.Core.Bool.{Bool, true, false, ◌&&◌, cond}
@@ -20,16 +21,14 @@ use Rattle.parts.specs.Parts.{payload_of, check_of}
 use Rattle.judge.specs.Writing.{write_of}
 use Rattle.message.specs.declared.value.Message.{Message}
 use Rattle.message.specs.Answers.{as_taken, reading}
-use Rattle.message.specs.declared.answers.Reading.TheVariants.{Refused}
-use Rattle.message.specs.declared.answers.Writing.TheVariants.{Written}
+use Rattle.message.specs.declared.answers.Reason.TheVariants.{PacketLength}
 use Rattle.message.proofs.Logic.{clash, and_false}
 use Rattle.message.proofs.Order.{first_pass}
-use Rattle.outer.proofs.Beginning.{outer_numbered}
 use Rattle.judge.proofs.Clear.{ClearWrite, written, written_sized}
 use Rattle.message.proofs.Lengths.{length_address, length_head, length_bytes, total_is}
 use Rattle.format.proofs.HeaderForth.{exchange_clean}
 use Rattle.format.proofs.Sized.{Sized}
-use Rattle.format.proofs.Taken as parts
+use Rattle.format.proofs.TakenParts as parts
 use Rattle.format.proofs.ValueBack.{body, found, exchange_is, shape_2, message_is}
 
 -- the fixed part is within the message, and so is an acknowledged id
@@ -50,9 +49,9 @@ module _ (m : Message) (p c : List ℕ) (room : ℕ) (z : Sized m) (k : ClearWri
   packet_there : m.tunnelled ≡ true → 0 < length p
   packet_there t = let f : length p ≡ 0 → ⊥ = eqb-false _ _ (and_false m.tunnelled _ k.empty t) in omega arith
 
-  outer_zero : first (outer_order (bytes_of m p c) m) ≡ 0
+  outer_none : first (outer_order (bytes_of m p c) m) ≡ None
   unfolding outer_order
-  outer_zero =
+  outer_none =
       let l = length_is in
       let s : length (bytes_of m p c) ≡ total m p = length_bytes m p c k.check in
       let short : length (bytes_of m p c) ≤ 1232 = omega (arith, k.short) in
@@ -89,7 +88,7 @@ module _ (m : Message) (p c : List ℕ) (room : ℕ) (z : Sized m) (k : ClearWri
 
   -- what is left to decide is the length of the packet
   sized_order : List Condition
-  sized_order = 27 when wrong_packet_length m p at_byte (body_of m + 1) ∷ []
+  sized_order = PacketLength when wrong_packet_length m p at_byte (body_of m + 1) ∷ []
 
   tunnel_sized : m.tunnelled ≡ true → first_refusal (tunnel_order (bytes_of m p c) m) ≡ first_refusal sized_order
   unfolding tunnel_order sized_order
@@ -105,24 +104,24 @@ module _ (m : Message) (p c : List ℕ) (room : ℕ) (z : Sized m) (k : ClearWri
   body_sized false t =
       ap (λ (b : Bool). first_refusal (cond b (tunnel_order (bytes_of m p c) m) (exchange_order (exchange_header (bytes_of m p c)) (length (bytes_of m p c)) m))) t
       ∙ exchange_none t
-      ∙ ap (λ (b : Bool). first_refusal (27 when (b && bad_packet_length p) at_byte (body_of m + 1) ∷ [])) (sym t)
+      ∙ ap (λ (b : Bool). first_refusal (PacketLength when (b && bad_packet_length p) at_byte (body_of m + 1) ∷ [])) (sym t)
 
   order_sized : first_refusal (reading_order (bytes_of m p c)) ≡ first_refusal sized_order
   unfolding reading_order
   order_sized =
       ap (λ (v : Message). first_refusal (outer_order (bytes_of m p c) v ++ body_order (bytes_of m p c) v)) (message_is m p c room z k)
-      ∙ first_pass (outer_order (bytes_of m p c) m) (body_order (bytes_of m p c) m) (outer_numbered (bytes_of m p c) m) outer_zero
+      ∙ first_pass (outer_order (bytes_of m p c) m) (body_order (bytes_of m p c) m) outer_none
       ∙ body_sized m.tunnelled refl
 
-  by_length : (l : Bool) → wrong_packet_length m p ≡ l → read_of (bytes_of m p c) ≡ reading (first_refusal (27 when l at_byte (body_of m + 1) ∷ [])) m
+  by_length : (l : Bool) → wrong_packet_length m p ≡ l → read_of (bytes_of m p c) ≡ reading (first_refusal (PacketLength when l at_byte (body_of m + 1) ∷ [])) m
   unfolding read_of sized_order
   by_length l e =
-      ap₂ reading (order_sized ∙ ap (λ (b : Bool). first_refusal (27 when b at_byte (body_of m + 1) ∷ [])) e) (message_is m p c room z k)
+      ap₂ reading (order_sized ∙ ap (λ (b : Bool). first_refusal (PacketLength when b at_byte (body_of m + 1) ∷ [])) e) (message_is m p c room z k)
 
   read_is : wrong_packet_length m p ≡ false → read_of (bytes_of m p c) ≡ as_taken m
   read_is = by_length false
 
-  pub read_refused : wrong_packet_length m p ≡ true → read_of (bytes_of m p c) ≡ Refused (record { number = 27; offset = body_of m + 1 })
+  pub read_refused : wrong_packet_length m p ≡ true → read_of (bytes_of m p c) ≡ Err (record { reason = PacketLength; offset = body_of m + 1 })
   read_refused = by_length true
 
   payload_same : wrong_packet_length m p ≡ false → payload_of (bytes_of m p c) (read_of (bytes_of m p c)) ≡ p
@@ -141,7 +140,7 @@ pub record SameRead (m : Message) (p c bytes : List ℕ) : Type 0 where
   pub payload : payload_of bytes (read_of bytes) ≡ p
   pub check : check_of bytes (read_of bytes) ≡ c
 
-pub write_read : (m : Message) (p c : List ℕ) (room n : ℕ) → Sized m → write_of m p c room ≡ Written n → SameRead m p c (bytes_of m p c)
+pub write_read : (m : Message) (p c : List ℕ) (room n : ℕ) → Sized m → write_of m p c room ≡ Ok n → SameRead m p c (bytes_of m p c)
 write_read m p c room n z e =
     let k = (written m p c room n e).1 in
     let s = written_sized m p c room n e in

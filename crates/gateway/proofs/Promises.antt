@@ -8,10 +8,10 @@ use mathlib.Core.List.{List}
 use lib.ListN.{length, get_or, take, drop}
 use Rattle.message.specs.declared.value.Message.{Message}
 use Rattle.message.specs.declared.answers.Head.{Head}
+use Rattle.admission.specs.Admission.{as_new, as_duplicate}
 use Rattle.reader.specs.Reading.{read_of}
 use Rattle.parts.specs.Parts.{payload_of, check_of}
 use Rattle.reception.specs.Receiving.{Beside, receive_of}
-use Rattle.admission.specs.declared.answers.Received.TheVariants as Received
 use Rattle.reception.proofs.WasRead.{new_was_read, duplicate_was_read}
 use Rattle.places.specs.Fields.{fields_of}
 use Rattle.places.proofs.Promises.{payload_there, check_there}
@@ -23,12 +23,12 @@ PartsThere bytes fields =
     × (take (get_or fields 13 0) (drop (get_or fields 12 0) bytes) ≡ check_of bytes (read_of bytes))
 
 module _ (b : Beside) (bytes t : List ℕ) (m : Message) (h : Head) (reply : ℕ) where
-  pub new_parts : receive_of b bytes t ≡ Received.New m h reply → PartsThere bytes (fields_of m h (length bytes) 1 reply)
+  pub new_parts : receive_of b bytes t ≡ as_new m h reply → PartsThere bytes (fields_of m h (length bytes) 1 reply)
   new_parts e =
       let r = new_was_read b bytes t m h reply e in
       (payload_there bytes m h r 1 reply, check_there bytes m h r 1 reply)
 
-  pub duplicate_parts : receive_of b bytes t ≡ Received.Duplicate m h reply → PartsThere bytes (fields_of m h (length bytes) 2 reply)
+  pub duplicate_parts : receive_of b bytes t ≡ as_duplicate m h reply → PartsThere bytes (fields_of m h (length bytes) 2 reply)
   duplicate_parts e =
       let r = duplicate_was_read b bytes t m h reply e in
       (payload_there bytes m h r 2 reply, check_there bytes m h r 2 reply)

@@ -1,3 +1,2 @@
 -- What the contracts of `gateway` cite.
 pub mod Receiving
-pub mod Removing

@@ -14,7 +14,7 @@ use denote.MutBor.{MutBor}
 use denote.Ref.{Bor}
 use denote.Triple.Clauses.{AtExit}
 use Rattle.wire.proofs.One.{both, two, three}
-use Rattle.gateway_format.specs.contracts.messages.kabizarle_read_outer as outer
+use Rattle.gateway_format.specs.contracts.protected.kabizarle_read_outer as outer
 use Rattle.gateway_format.specs.contracts.messages.kabizarle_read as reading
 use Rattle.gateway_format.specs.contracts.messages.kabizarle_write as writing
 use Rattle.gateway_format.specs.contracts.streams.kabizarle_unframe as unframing

@@ -8,7 +8,8 @@ use Rattle.window.specs.declared.Rolled.{Rolled}
 use Rattle.window.specs.declared.Verdict.{Verdict}
 use Rattle.window.specs.Rows.{rolled_of}
 use Rattle.table.specs.Table.{row_of, with_row}
-use Rattle.gateway_rows.specs.Rows.{verdict_number, words_after, rolled_words}
+use Rattle.gateway_rows.specs.Rows.{words_after, rolled_words}
+use Rattle.places.specs.Answers.{verdict_number}
 
 -- the row of three words is that of the list they stand in
 pub three_words : (words : List ℕ) → row_of (get_or words 0 0 ∷ get_or words 1 0 ∷ get_or words 2 0 ∷ []) 0 ≡ row_of words 0

@@ -1,15 +1,10 @@
--- Rows: the number of a verdict, and what rolling and reading a row put into the lent places. Assumes nothing.
+-- Rows: what rolling and reading a row put into the lent places. Assumes nothing.
 use Rattle.std.specs.Prelude.{ℕ, ◌%◌, ◌^◌, List, [], ◌∷◌}
 use Rattle.window.specs.declared.Row.{Row}
 use Rattle.window.specs.declared.Rolled.{Rolled}
 use Rattle.window.specs.declared.Verdict.{Verdict}
 use Rattle.window.specs.Rows.{marks_held}
 use Rattle.table.specs.Table.{one_if, with_row}
-
--- the number of a verdict; 0 is none
-abbrev pub verdict_number : Verdict → ℕ
-verdict_number Verdict.New = 1
-verdict_number Verdict.Duplicate = 2
 
 -- rolling: a new id puts the three words of the row, a duplicate leaves them
 abbrev pub words_after : Verdict → Row → List ℕ → List ℕ

@@ -1,5 +1,6 @@
 -- A history in numbers: the theorem over histories, applied to the messages of the listing's example, a removal and a restore, and what it then
 -- says computed. Assumes nothing.
+use Rattle.std.specs.Prelude.{Result, Ok, Err}
 use Prim.Native.Nat.{ℕ, ◌+◌, ◌%◌, ◌^◌, ◌<◌}
 use mathlib.Core.Path.{◌≡◌, refl, ap, ap₂, ◌∙◌}
 use mathlib.Core.Bool.{Bool, true, false, ◌&&◌}
@@ -11,8 +12,11 @@ use Rattle.wire.specs.Bytes.{front}
 use Rattle.wire.proofs.Digits.{AllBytes, none, more}
 use Rattle.message.specs.Refusals.{stray, total}
 use Rattle.message.specs.Value.{address_of, exchanged_by, message_of}
-use Rattle.message.specs.Answers.{refusal, head_of}
+use Rattle.message.specs.Answers.{head_of}
 use Rattle.message.specs.declared.value.Message.{Message}
+use Rattle.message.specs.declared.answers.Reason.TheVariants.{OldTunnel}
+use Rattle.message.specs.declared.answers.Refusal.{Refusal}
+use Rattle.message.specs.Reasons.{refusal}
 use Rattle.message.proofs.Logic.{clash}
 use Rattle.judge.specs.Writing.{writing_order, write_of}
 use Rattle.outer.specs.Outer.{outer_order}
@@ -27,15 +31,13 @@ use Rattle.table.proofs.Kept.{kept_one}
 use Rattle.table.proofs.Least.{least_is}
 use Rattle.table.proofs.Words.{same_row, other_row, empty_row}
 use Rattle.reply.specs.Acknowledgement.{acknowledgement_of, acknowledging}
-use Rattle.admission.specs.Admission.{row_for, rolled_in, admission_order, answer_of, table_after, table_by}
+use Rattle.admission.specs.Admission.{row_for, rolled_in, admission_order, answer_of, table_after, table_by, as_new, as_duplicate}
 use Rattle.admission.specs.declared.answers.Received.{Received}
-use Rattle.reception.specs.declared.answers.Removed.TheVariants as Removed
 use Rattle.reception.specs.Receiving.{Beside, beside, delivery_order, after_reading, receiving_order, receive_of, receive_table}
 use Rattle.admission.proofs.Places.{opens}
 use Rattle.records.specs.Records.{record_of, row_in}
 use Rattle.records.specs.Saving.{records_of, saved_bytes}
 use Rattle.records.specs.Restoring.{named_before, restoring_order, restore_of}
-use Rattle.records.specs.declared.answers.Restored.TheVariants as Restored
 use Rattle.history.specs.History.{Step, arrives, leaves, restores, of_arrival, of_leaving, of_restoring, answer_at, table_at, answers_of, table_of, empty_book, under, receive_by, restored_book, book_at, answers_by, book_of}
 use Rattle.history.specs.Telling.{Follows}
 use Rattle.history.proofs.History.{history, told_empty}
@@ -132,9 +134,9 @@ follows_removal = history_from_the_empty_table with_removal (are_bytes x refl, (
 
 -- The listing's example is answered new, duplicate, and refused by 5; the first two with the value of X and 34 bytes of acknowledgement.
 pub answers_to_the_example : answers_of empty_table example
-    ≡ of_arrival (Received.New value_of_x (head_of value_of_x) 34)
-    ∷ of_arrival (Received.Duplicate value_of_x (head_of value_of_x) 34)
-    ∷ of_arrival (Received.Refused (refusal 5))
+    ≡ of_arrival (as_new value_of_x (head_of value_of_x) 34)
+    ∷ of_arrival (as_duplicate value_of_x (head_of value_of_x) 34)
+    ∷ of_arrival (Err (refusal OldTunnel))
     ∷ []
 unfolding answers_by book_at receive_by under receiving_order reading_order outer_order body_order exchange_order tunnel_order after_reading delivery_order admission_order answer_of message_of exchanged_by address_of total acknowledgement_of acknowledging write_of writing_order stray member greatest position_of position_after is_new_position accepts behind_of
 answers_to_the_example = follows.0 ∙ refl
@@ -148,12 +150,12 @@ row_after_the_example = (row_shows_its_list follows.2 0x020000000000000E 0 ((5 +
 
 -- The name is removed, and has no row then.
 pub removal_after_the_example : let t : List ℕ = table_of empty_table example in
-    (answer_at t removal ≡ of_leaving Removed.Done) × (find_of rows (table_at t removal) 0x020000000000000E 0 < rows → ⊥)
+    (answer_at t removal ≡ of_leaving (Ok tt)) × (find_of rows (table_at t removal) 0x020000000000000E 0 < rows → ⊥)
 unfolding book_of book_at receive_by under receiving_order reading_order outer_order body_order exchange_order tunnel_order after_reading delivery_order admission_order answer_of message_of exchanged_by address_of total acknowledgement_of acknowledging write_of writing_order stray member greatest position_of position_after is_new_position accepts behind_of
 removal_after_the_example = (follows.1 ∙ refl, no_list_no_row follows.3 0x020000000000000E 0 refl)
 
 -- After that X is new again.
-pub x_after_its_removal : answer_at (table_of empty_table with_removal) (arrives there x) ≡ of_arrival (Received.New value_of_x (head_of value_of_x) 34)
+pub x_after_its_removal : answer_at (table_of empty_table with_removal) (arrives there x) ≡ of_arrival (as_new value_of_x (head_of value_of_x) 34)
 unfolding book_of book_at receive_by under receiving_order reading_order outer_order body_order exchange_order tunnel_order after_reading delivery_order admission_order answer_of message_of exchanged_by address_of total acknowledgement_of acknowledging write_of writing_order stray member greatest position_of position_after is_new_position accepts behind_of
 x_after_its_removal = follows_removal.1 ∙ refl
 
@@ -172,7 +174,7 @@ saved =
 abbrev row_of_x : Row
 row_of_x = opened 0x020000000000000E 0 5
 
-answer_to_x : receive_of there x empty_table ≡ Received.New value_of_x (head_of value_of_x) 34
+answer_to_x : receive_of there x empty_table ≡ as_new value_of_x (head_of value_of_x) 34
 unfolding receive_by under receiving_order reading_order outer_order body_order exchange_order tunnel_order after_reading delivery_order admission_order answer_of message_of exchanged_by address_of total acknowledgement_of acknowledging write_of writing_order stray member greatest position_of position_after is_new_position accepts behind_of
 answer_to_x = (arrival told_empty there x (are_bytes x refl)).0 ∙ refl
 
@@ -182,7 +184,7 @@ table_after_x =
     let none = none_there_none_found empty_table 0x020000000000000E 0 (λ k l. ap (named 0x020000000000000E 0) (empty_row k)) in
     let o = opens empty_table 0x020000000000000E 0 5 (omega (arith, none)) in
     let lowest : free_of rows empty_table ≡ 0 = least_is rows (λ i. is_free (row_of empty_table i)) 0 (omega arith) (λ k l. let z : ⊥ = omega arith in absurd z) (ap is_free (empty_row 0)) in
-    ap (λ (a : Received). table_after a empty_table (row_for empty_table 0x020000000000000E 0) (rolled_in empty_table 0x020000000000000E 0 5).row) answer_to_x
+    ap (λ (a : Result Received Refusal). table_after a empty_table (row_for empty_table 0x020000000000000E 0) (rolled_in empty_table 0x020000000000000E 0 5).row) answer_to_x
     ∙ ap₂ (λ (i : ℕ) (r : Rolled). with_row empty_table i r.row) (o.0 ∙ lowest) o.1
 
 -- After X the table is saved as this record.
@@ -195,19 +197,19 @@ saved_after_x =
     ap saved_bytes table_after_x ∙ ap records_of (alone ∙ ap (λ (row : Row). row ∷ []) here)
 
 -- Restored from it, the empty table, to which X is new, takes X for a duplicate.
-pub x_after_its_restore : (answer_at empty_table (arrives there x) ≡ of_arrival (Received.New value_of_x (head_of value_of_x) 34))
-    × (answer_at (table_of empty_table (restores saved ∷ [])) (arrives there x) ≡ of_arrival (Received.Duplicate value_of_x (head_of value_of_x) 34))
+pub x_after_its_restore : (answer_at empty_table (arrives there x) ≡ of_arrival (as_new value_of_x (head_of value_of_x) 34))
+    × (answer_at (table_of empty_table (restores saved ∷ [])) (arrives there x) ≡ of_arrival (as_duplicate value_of_x (head_of value_of_x) 34))
 unfolding book_of book_at restore_of restoring_order named_before first_below row_in front restored_book kept list_of marked bit_at receive_by receiving_order reading_order outer_order body_order exchange_order tunnel_order after_reading delivery_order admission_order answer_of message_of exchanged_by address_of total acknowledgement_of acknowledging write_of writing_order stray member greatest position_of position_after is_new_position accepts behind_of
 x_after_its_restore =
     (ap of_arrival answer_to_x, (history_from_the_empty_table (restores saved ∷ []) (are_bytes saved refl, tt) (arrives there x) (are_bytes x refl)).1 ∙ refl)
 
 -- The message after X, accepted after the save, is new again once the record is restored, and X is a duplicate.
 pub next_after_the_restore : answers_of empty_table (arrives there x ∷ arrives there next ∷ restores saved ∷ arrives there next ∷ arrives there x ∷ [])
-    ≡ of_arrival (Received.New value_of_x (head_of value_of_x) 34)
-    ∷ of_arrival (Received.New (value_under 6) (head_of (value_under 6)) 34)
-    ∷ of_restoring (Restored.Placed 1)
-    ∷ of_arrival (Received.New (value_under 6) (head_of (value_under 6)) 34)
-    ∷ of_arrival (Received.Duplicate value_of_x (head_of value_of_x) 34)
+    ≡ of_arrival (as_new value_of_x (head_of value_of_x) 34)
+    ∷ of_arrival (as_new (value_under 6) (head_of (value_under 6)) 34)
+    ∷ of_restoring (Ok 1)
+    ∷ of_arrival (as_new (value_under 6) (head_of (value_under 6)) 34)
+    ∷ of_arrival (as_duplicate value_of_x (head_of value_of_x) 34)
     ∷ []
 unfolding answers_by book_at restore_of restoring_order named_before first_below row_in front restored_book kept list_of marked bit_at receive_by under receiving_order reading_order outer_order body_order exchange_order tunnel_order after_reading delivery_order admission_order answer_of message_of exchanged_by address_of total acknowledgement_of acknowledging write_of writing_order stray member greatest position_of position_after is_new_position accepts behind_of
 next_after_the_restore =
@@ -226,10 +228,10 @@ record_with n marks =
 
 -- X, one below the highest id of the record, is a duplicate where its mark is set in it, and new where it is not.
 pub mark_after_the_restore : answers_of empty_table (restores (record_with 0x0E 1) ∷ arrives there x ∷ restores (record_with 0x0E 0) ∷ arrives there x ∷ [])
-    ≡ of_restoring (Restored.Placed 1)
-    ∷ of_arrival (Received.Duplicate value_of_x (head_of value_of_x) 34)
-    ∷ of_restoring (Restored.Placed 1)
-    ∷ of_arrival (Received.New value_of_x (head_of value_of_x) 34)
+    ≡ of_restoring (Ok 1)
+    ∷ of_arrival (as_duplicate value_of_x (head_of value_of_x) 34)
+    ∷ of_restoring (Ok 1)
+    ∷ of_arrival (as_new value_of_x (head_of value_of_x) 34)
     ∷ []
 unfolding answers_by book_at restore_of restoring_order named_before first_below row_in front restored_book kept list_of marked bit_at receive_by under receiving_order reading_order outer_order body_order exchange_order tunnel_order after_reading delivery_order admission_order answer_of message_of exchanged_by address_of total acknowledgement_of acknowledging write_of writing_order stray member greatest position_of position_after is_new_position accepts behind_of
 mark_after_the_restore =
@@ -239,9 +241,9 @@ mark_after_the_restore =
 
 -- A restore without a record of X's name ends its list, and X is new again.
 pub x_without_its_record : answers_of empty_table (arrives there x ∷ restores (record_with 0x0F 0) ∷ arrives there x ∷ [])
-    ≡ of_arrival (Received.New value_of_x (head_of value_of_x) 34)
-    ∷ of_restoring (Restored.Placed 1)
-    ∷ of_arrival (Received.New value_of_x (head_of value_of_x) 34)
+    ≡ of_arrival (as_new value_of_x (head_of value_of_x) 34)
+    ∷ of_restoring (Ok 1)
+    ∷ of_arrival (as_new value_of_x (head_of value_of_x) 34)
     ∷ []
 unfolding answers_by book_at restore_of restoring_order named_before first_below row_in front restored_book kept list_of marked bit_at receive_by under receiving_order reading_order outer_order body_order exchange_order tunnel_order after_reading delivery_order admission_order answer_of message_of exchanged_by address_of total acknowledgement_of acknowledging write_of writing_order stray member greatest position_of position_after is_new_position accepts behind_of
 x_without_its_record =
@@ -250,7 +252,7 @@ x_without_its_record =
 
 -- The table after the listing's example, saved and restored into the empty one, goes on: X is a duplicate, and the message after it is new.
 pub goes_on_after_the_example : answers_of (table_at empty_table (restores (saved_bytes (table_of empty_table example)))) (arrives there x ∷ arrives there next ∷ [])
-    ≡ of_arrival (Received.Duplicate value_of_x (head_of value_of_x) 34) ∷ of_arrival (Received.New (value_under 6) (head_of (value_under 6)) 34) ∷ []
+    ≡ of_arrival (as_duplicate value_of_x (head_of value_of_x) 34) ∷ of_arrival (as_new (value_under 6) (head_of (value_under 6)) 34) ∷ []
 unfolding answers_by book_of book_at receive_by under receiving_order reading_order outer_order body_order exchange_order tunnel_order after_reading delivery_order admission_order answer_of message_of exchanged_by address_of total acknowledgement_of acknowledging write_of writing_order stray member greatest position_of position_after is_new_position accepts behind_of
 goes_on_after_the_example =
     restored_goes_on_as_saved example (are_bytes x refl, (are_bytes x refl, (are_bytes short_one refl, tt))) (omega arith, (omega arith, (omega arith, tt))) empty_table

@@ -1,4 +1,5 @@
 -- What a history of calls comes to, each as a theorem of its own. The laws behind them are in the other files of this folder. Assumes nothing.
+use Rattle.std.specs.Prelude.{Result, Ok, Err}
 use Prim.Native.Nat.{ℕ, ◌+◌, ◌^◌, ◌<◌}
 use mathlib.Core.Path.{◌≡◌, refl, sym, ap, ap₂, subst, subst⁻¹, ◌∙◌}
 use mathlib.Core.Bool.{Bool, true, false, ◌&&◌, cond}
@@ -17,6 +18,7 @@ use Rattle.message.specs.Answers.{head_of}
 use Rattle.message.specs.declared.value.Message.{Message}
 use Rattle.message.specs.declared.answers.Head.{Head}
 use Rattle.message.specs.declared.answers.Refusal.{Refusal}
+use Rattle.window.specs.declared.Verdict.{Verdict}
 use Rattle.window.specs.Rule.{member, accepts, marked}
 use Rattle.window.specs.Rows.{marks_held, behind_of, list_of}
 use Rattle.window.specs.History.{verdict_of, Shows}
@@ -25,17 +27,16 @@ use Rattle.window.specs.declared.Row.{Row}
 use Rattle.window.proofs.Rows.{list_distinct, fits_gateway}
 use Rattle.window.proofs.Promises.{no_position_twice}
 use Rattle.table.specs.Table.{rows, empty_table, row_of, named, find_of, kept, rows_in_use}
-use Rattle.admission.specs.Admission.{rolled_in, answer_of}
+use Rattle.admission.specs.Admission.{rolled_in, answer_of, received, as_new, as_duplicate}
 use Rattle.admission.specs.declared.answers.Received.{Received}
 use Rattle.reception.specs.Receiving.{Beside, sender_of, answer_to, receiving_order}
 use Rattle.reception.proofs.WasRead.{new_of}
 use Rattle.records.specs.Restoring.{record_count, row_from, restore_of, restored_table, table_after, restore_table}
 use Rattle.records.specs.Saving.{saved_bytes}
 use Rattle.records.specs.Sound.{Sound}
-use Rattle.records.specs.declared.answers.Restored.{Restored}
 use Rattle.records.proofs.Placed.{narrow_from, restored_length, Taken, is_taken}
 use Rattle.records.proofs.SaveRestore.{restore_after_save}
-use Rattle.history.specs.History.{Step, arrives, leaves, restores, table_at, answers_of, table_of, Book, empty_book, is_new, joined, full_for, under, receive_by, book_after, book_without, restored_book, book_restored, book_at, book_of}
+use Rattle.history.specs.History.{Step, arrives, leaves, restores, table_at, answers_of, table_of, Book, empty_book, is_new, joined, full_for, under, receive_by, book_after, book_without, restored_book, book_restored, book_at, book_of, book_joined}
 use Rattle.history.specs.HandedIn.{handed_in}
 use Rattle.history.specs.Telling.{Bytes, AllOf, AllLinks, Told, Follows, AllDistinct, AtMostOne}
 use Rattle.history.proofs.Told.{is_open, is_shut}
@@ -89,25 +90,25 @@ module _ {t : List ℕ} {book : Book} (told : Told t book) (node key : ℕ) wher
 -- ---- what a message does to its list
 
 -- New ids join the list of their name, or begin it; every other name keeps its own.
-pub new_joins_its_list : (book : Book) (b : Beside) (bytes : List ℕ) (m : Message) (h : Head) (len : ℕ) → receive_by book b bytes ≡ Received.New m h len
+pub new_joins_its_list : (book : Book) (b : Beside) (bytes : List ℕ) (m : Message) (h : Head) (len : ℕ) → receive_by book b bytes ≡ as_new m h len
     → let node : ℕ = sender_of b.link m in
     (book_at book (arrives b bytes)).lists ≡ under book.lists node m.key (joined m.key (book.lists node m.key) m.id)
 unfolding book_at receive_by answer_of
 new_joins_its_list book b bytes m h len e =
     let those : List (List ℕ) = book.lists (sender_of b.link (message_of bytes)) (message_of bytes).key in
     let w = new_of (first_refusal (receiving_order b bytes (full_for those book.count))) (verdict_of (is_new (message_of bytes).key those (message_of bytes).id)) (message_of bytes) m (head_of (message_of bytes)) h (only (message_of bytes).wants (total (answer_to b (message_of bytes)) [])) len e in
-    ap (λ (a : Received). (book_after a (sender_of b.link (message_of bytes)) (message_of bytes).key (message_of bytes).id book).lists) e
+    ap (λ (a : Result Received Refusal). (book_after a (sender_of b.link (message_of bytes)) (message_of bytes).key (message_of bytes).id book).lists) e
     ∙ ap (λ (x : Message). under book.lists (sender_of b.link x) x.key (joined x.key (book.lists (sender_of b.link x) x.key) x.id)) w.1
 
 -- A refused message gets no position, and a duplicate none: the book is as it was.
-pub refused_gets_no_position : (book : Book) (b : Beside) (bytes : List ℕ) (r : Refusal) → receive_by book b bytes ≡ Received.Refused r → book_at book (arrives b bytes) ≡ book
+pub refused_gets_no_position : (book : Book) (b : Beside) (bytes : List ℕ) (r : Refusal) → receive_by book b bytes ≡ Err r → book_at book (arrives b bytes) ≡ book
 unfolding book_at
-refused_gets_no_position book b bytes r e = ap (λ (a : Received). book_after a (sender_of b.link (message_of bytes)) (message_of bytes).key (message_of bytes).id book) e
+refused_gets_no_position book b bytes r e = ap (λ (a : Result Received Refusal). book_after a (sender_of b.link (message_of bytes)) (message_of bytes).key (message_of bytes).id book) e
 
-pub duplicate_gets_no_position : (book : Book) (b : Beside) (bytes : List ℕ) (m : Message) (h : Head) (len : ℕ) → receive_by book b bytes ≡ Received.Duplicate m h len
+pub duplicate_gets_no_position : (book : Book) (b : Beside) (bytes : List ℕ) (m : Message) (h : Head) (len : ℕ) → receive_by book b bytes ≡ as_duplicate m h len
     → book_at book (arrives b bytes) ≡ book
 unfolding book_at
-duplicate_gets_no_position book b bytes m h len e = ap (λ (a : Received). book_after a (sender_of b.link (message_of bytes)) (message_of bytes).key (message_of bytes).id book) e
+duplicate_gets_no_position book b bytes m h len e = ap (λ (a : Result Received Refusal). book_after a (sender_of b.link (message_of bytes)) (message_of bytes).key (message_of bytes).id book) e
 
 -- ---- no position twice
 
@@ -140,9 +141,9 @@ module _ (P : List (List ℕ) → Type 0)
         go (ps ∷ pss) e = replaced book node key pss d (ends ps pss e)
     keeps book (restores bytes) d = go (restore_of bytes) refl
       where
-        go : (a : Restored) → restore_of bytes ≡ a → (n k : ℕ) → P ((book_restored a (restored_book bytes) book).lists n k)
-        go (Restored.Placed count) e = begins bytes count (is_taken bytes count e)
-        go (Restored.Refused r) e = d
+        go : (a : Result ℕ Refusal) → restore_of bytes ≡ a → (n k : ℕ) → P ((book_restored a (restored_book bytes) book).lists n k)
+        go (Ok count) e = begins bytes count (is_taken bytes count e)
+        go (Err r) e = d
     keeps book (arrives b bytes) d = go (receive_by book b bytes) refl
       where
         node : ℕ
@@ -154,12 +155,15 @@ module _ (P : List (List ℕ) → Type 0)
         id : ℕ
         id = (message_of bytes).id
 
-        go : (a : Received) → receive_by book b bytes ≡ a → (n k : ℕ) → P ((book_after a node key id book).lists n k)
-        go (Received.New v h len) e =
+        by : (v : Verdict) (x : Message) (h : Head) (len : ℕ) → receive_by book b bytes ≡ Ok (received v x h len) → (n k : ℕ) → P ((book_joined v node key id book).lists n k)
+        by Verdict.New v h len e =
             let w = new_of (first_refusal (receiving_order b bytes (full_for (book.lists node key) book.count))) (verdict_of (is_new key (book.lists node key) id)) (message_of bytes) v (head_of (message_of bytes)) h (only (message_of bytes).wants (total (answer_to b (message_of bytes)) [])) len e in
             replaced book node key (joined key (book.lists node key) id) d (joins key (book.lists node key) id (d node key) (is_accepted _ w.3))
-        go (Received.Duplicate v h len) e = d
-        go (Received.Refused r) e = d
+        by Verdict.Duplicate v h len e = d
+
+        go : (a : Result Received Refusal) → receive_by book b bytes ≡ a → (n k : ℕ) → P ((book_after a node key id book).lists n k)
+        go (Ok a) e = by a.verdict a.taken.message a.taken.head a.reply e
+        go (Err r) e = d
 
     along : (book : Book) (steps : List Step) → ((n k : ℕ) → P (book.lists n k)) → (n k : ℕ) → P ((book_of book steps).lists n k)
     unfolding book_of
@@ -222,15 +226,15 @@ removed_has_no_list steps node key = go ((book_of empty_book steps).lists node k
 
 -- ---- restoring
 
-module _ (bytes : List ℕ) (n : ℕ) (e : restore_of bytes ≡ Restored.Placed n) where
+module _ (bytes : List ℕ) (n : ℕ) (e : restore_of bytes ≡ Ok n) where
   -- the book is that of the bytes, and so is the table
   book_is : (book : Book) → book_at book (restores bytes) ≡ restored_book bytes
   unfolding book_at
-  book_is book = ap (λ (a : Restored). book_restored a (restored_book bytes) book) e
+  book_is book = ap (λ (a : Result ℕ Refusal). book_restored a (restored_book bytes) book) e
 
   table_is : (t : List ℕ) → table_at t (restores bytes) ≡ restored_table bytes
   unfolding restore_table
-  table_is t = ap (λ (a : Restored). table_after a (restored_table bytes) t) e
+  table_is t = ap (λ (a : Result ℕ Refusal). table_after a (restored_table bytes) t) e
 
   told : AllBytes bytes → (t : List ℕ) → Told (table_at t (restores bytes)) (restored_book bytes)
   told all t = subst⁻¹ (λ (u : List ℕ). Told u (restored_book bytes)) (table_is t) (told_restored bytes all (is_taken bytes n e).most)
@@ -274,11 +278,11 @@ module _ (bytes : List ℕ) (n : ℕ) (e : restore_of bytes ≡ Restored.Placed 
         ∙ ap (λ (those : List (List ℕ)). verdict_of (is_new (row_from bytes i).key those id)) (restored_list (is_taken bytes n e) i l)
 
 -- A refused restore changes neither book nor table.
-pub refused_restore_keeps_book_and_table : (bytes : List ℕ) (r : Refusal) → restore_of bytes ≡ Restored.Refused r → (book : Book) (t : List ℕ)
+pub refused_restore_keeps_book_and_table : (bytes : List ℕ) (r : Refusal) → restore_of bytes ≡ Err r → (book : Book) (t : List ℕ)
     → (book_at book (restores bytes) ≡ book) × (table_at t (restores bytes) ≡ t)
 unfolding book_at restore_table
 refused_restore_keeps_book_and_table bytes r e book t =
-    (ap (λ (a : Restored). book_restored a (restored_book bytes) book) e, ap (λ (a : Restored). table_after a (restored_table bytes) t) e)
+    (ap (λ (a : Result ℕ Refusal). book_restored a (restored_book bytes) book) e, ap (λ (a : Result ℕ Refusal). table_after a (restored_table bytes) t) e)
 
 -- ---- saving, and restoring what was saved
 
@@ -290,7 +294,7 @@ reached_is_sound steps all links =
 -- Restoring what was then saved, into whatever table, takes the bytes and gives the same rows in use, in the same order.
 pub restore_after_save_of_a_reached_table : (steps : List Step) → AllOf steps → AllLinks steps → (other : List ℕ)
     → let t : List ℕ = table_of empty_table steps in
-    (restore_of (saved_bytes t) ≡ Restored.Placed (length (rows_in_use t))) × (rows_in_use (table_at other (restores (saved_bytes t))) ≡ rows_in_use t)
+    (restore_of (saved_bytes t) ≡ Ok (length (rows_in_use t))) × (rows_in_use (table_at other (restores (saved_bytes t))) ≡ rows_in_use t)
 restore_after_save_of_a_reached_table steps all links other =
     let t : List ℕ = table_of empty_table steps in
     let back = restore_after_save t (reached_is_sound steps all links) in

@@ -1,4 +1,6 @@
 -- Restoring: the restored table tells the book of the same bytes, and under each name that book has one list or none. Assumes nothing.
+use Rattle.std.specs.Prelude.{Result, Ok, Err}
+use Rattle.message.specs.declared.answers.Refusal.{Refusal}
 use Prim.Native.Nat.{ℕ, zero, suc, ◌+◌, ◌^◌, ◌≤◌, ◌<◌}
 use mathlib.Core.Path.{◌≡◌, refl, sym, ap, ap₂, subst⁻¹, ◌∙◌}
 use mathlib.Core.Bool.{Bool, true, false, ◌&&◌, cond}
@@ -17,7 +19,6 @@ use Rattle.table.specs.Table.{rows, named, kept, in_use}
 use Rattle.table.proofs.Kept.{kept_none, kept_one, kept_every}
 use Rattle.records.specs.Records.{row_in, same_name}
 use Rattle.records.specs.Restoring.{record_count, row_from, restore_of, restored_table, table_after, restore_table}
-use Rattle.records.specs.declared.answers.Restored.{Restored}
 use Rattle.records.proofs.Placed.{narrow_from, restored_length, restored_kept, Taken, is_taken}
 use Rattle.history.specs.History.{Book, restores, restored_book, book_restored, book_at}
 use Rattle.history.specs.Telling.{Stand, Told, AtMostOne}
@@ -44,9 +45,9 @@ pub restoring : {t : List ℕ} {book : Book} → Told t book → (bytes : List �
 unfolding restore_table book_at
 restoring {t} {book} told bytes all = go (restore_of bytes) refl
   where
-    go : (a : Restored) → restore_of bytes ≡ a → Told (table_after a (restored_table bytes) t) (book_restored a (restored_book bytes) book)
-    go (Restored.Placed n) e = told_restored bytes all (is_taken bytes n e).most
-    go (Restored.Refused r) e = told
+    go : (a : Result ℕ Refusal) → restore_of bytes ≡ a → Told (table_after a (restored_table bytes) t) (book_restored a (restored_book bytes) book)
+    go (Ok n) e = told_restored bytes all (is_taken bytes n e).most
+    go (Err r) e = told
 
 -- ---- the lists of a name
 

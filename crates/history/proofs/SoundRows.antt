@@ -1,5 +1,6 @@
 -- Each row in use stays sound over a history: a message puts it under a name that receiving lets through, a removal frees it, and restoring puts
 -- rows that 25 lets through. Assumes nothing.
+use Rattle.std.specs.Prelude.{Result, Ok, Err, None}
 use Prim.Native.Nat.{ℕ, suc, ◌+◌, ◌-◌, ◌*◌, ◌/◌, ◌%◌, ◌^◌, ◌<◌}
 use mathlib.Core.Path.{◌≡◌, refl, sym, ap, subst⁻¹, ◌∙◌}
 use mathlib.Core.Bool.{Bool, true, false, not, ◌&&◌, ◌||◌, cond}
@@ -12,11 +13,15 @@ use lib.ListN.{length}
 use Rattle.wire.specs.Bytes.{part, little, big}
 use Rattle.wire.proofs.Digits.{AllBytes}
 use Rattle.wire.proofs.Parts.{byte_low}
-use Rattle.message.specs.Order.{first_refusal, first}
+use Rattle.message.specs.Order.{first_refusal, first, reason_of}
 use Rattle.message.specs.Layout.{only, source_at}
 use Rattle.message.specs.Value.{bits, bit, header, address_of, exchanged_by, message_of}
 use Rattle.message.specs.Refusals.{bad_key_type, nobody, total}
 use Rattle.message.specs.Answers.{head_of}
+use Rattle.message.specs.declared.answers.Refusal.{Refusal}
+use Rattle.message.specs.declared.answers.Head.{Head}
+use Rattle.message.specs.declared.value.Message.{Message}
+use Rattle.window.specs.declared.Verdict.{Verdict}
 use Rattle.message.proofs.Logic.{clash, or_false, when_true}
 use Rattle.window.specs.Rule.{member, greatest, number, bit_at, marks_number, accepts, step}
 use Rattle.window.specs.Rows.{marks_held, behind_of, list_of, row_in_use, opened, judged, rolled_at, rolled_of}
@@ -26,7 +31,7 @@ use Rattle.window.proofs.Bits.{number_lt}
 use Rattle.table.specs.Table.{rows, empty_table, freed, row_of, with_row, find_of}
 use Rattle.table.proofs.Found.{found_is_in_use_under_the_name}
 use Rattle.table.proofs.Words.{Narrow, other_row, same_row, empty_row}
-use Rattle.admission.specs.Admission.{row_for, no_row, rolled_in, answer_of, table_after, table_by}
+use Rattle.admission.specs.Admission.{row_for, no_row, rolled_in, answer_of, table_after, table_by, received, put_if_new}
 use Rattle.admission.specs.declared.answers.Received.{Received}
 use Rattle.admission.proofs.Places.{found, opens}
 use Rattle.reception.specs.Receiving.{Beside, sender_of, answer_to, receiving_order, receive_of, receive_table}
@@ -37,7 +42,6 @@ use Rattle.records.specs.Records.{row_in, bad_row}
 use Rattle.records.specs.Restoring.{record_count, row_from, restore_of, restored_table, restore_table}
 use Rattle.records.specs.Restoring as rst
 use Rattle.records.specs.Sound.{SoundRow}
-use Rattle.records.specs.declared.answers.Restored.{Restored}
 use Rattle.records.proofs.Placed.{narrow_from, node_from, restored_free, restored_row, Taken, is_taken}
 use Rattle.history.specs.History.{Step, arrives, leaves, restores, table_at, Book, book_at, table_of}
 use Rattle.history.specs.Telling.{Bytes, AllOf, Links, AllLinks, Told}
@@ -150,7 +154,7 @@ sender_low b bytes all l = go (bit (header bytes) 9)
     go false = l
 
 -- the key id is 0 or of type 1 or 2
-key_kind : (b : Beside) (bytes : List ℕ) (full : Bool) → first (receiving_order b bytes full) ≡ 0 → (not (eqb (message_of bytes).key 0) && bad_key_type (message_of bytes).key) ≡ false
+key_kind : (b : Beside) (bytes : List ℕ) (full : Bool) → first (receiving_order b bytes full) ≡ None → (not (eqb (message_of bytes).key 0) && bad_key_type (message_of bytes).key) ≡ false
 unfolding message_of exchanged_by address_of
 key_kind b bytes full clear = go (eqb (bits (header bytes) 4 4) 1) _ (key_is_good b bytes full clear)
   where
@@ -189,19 +193,23 @@ module _ (t : List ℕ) (size : length t ≡ 96) (all : AllSound t) where
           subst⁻¹ (λ (x : Rolled). AllSound (with_row t (row_for t node key) x.row)) f.1
           (at (row_for t node key) (opened node key id) (leb-false rows (row_for t node key) room) (opened_sound node key id name (id_low bytes are)))
 
-      go : (a : Received) → receive_of b bytes t ≡ a → AllSound (table_after a t (row_for t node key) (rolled_in t node key id).row)
-      go (Received.New v h n) e =
+      by : (v : Verdict) (x : Message) (h : Head) (n : ℕ) → receive_of b bytes t ≡ Ok (received v x h n) → AllSound (put_if_new v t (row_for t node key) (rolled_in t node key id).row)
+      by Verdict.New v h n e =
           let w = new_of (first_refusal (receiving_order b bytes (no_row t node key))) (rolled_in t node key id).verdict (message_of bytes) v (head_of (message_of bytes)) h (only (message_of bytes).wants (total (answer_to b (message_of bytes)) [])) n e in
+          let clear = ap reason_of w.0 in
           let name : GoodName node key =
           record {
-            somebody = sender_is_somebody b bytes (no_row t node key) w.0;
-            kind = key_kind b bytes (no_row t node key) w.0;
+            somebody = sender_is_somebody b bytes (no_row t node key) clear;
+            kind = key_kind b bytes (no_row t node key) clear;
             node_fits = sender_low b bytes are l;
             key_fits = key_low bytes are;
           } in
-          put name (has_row b bytes (no_row t node key) w.0) (dec_lt (find_of rows t node key) rows)
-      go (Received.Duplicate v h n) e = all
-      go (Received.Refused r) e = all
+          put name (has_row b bytes (no_row t node key) clear) (dec_lt (find_of rows t node key) rows)
+      by Verdict.Duplicate v h n e = all
+
+      go : (a : Result Received Refusal) → receive_of b bytes t ≡ a → AllSound (table_after a t (row_for t node key) (rolled_in t node key id).row)
+      go (Ok a) e = by a.verdict a.taken.message a.taken.head a.reply e
+      go (Err r) e = all
 
   leaving : (node key : ℕ) → AllSound (remove_table t node key)
   unfolding remove_table
@@ -216,9 +224,9 @@ module _ (t : List ℕ) (size : length t ≡ 96) (all : AllSound t) where
   unfolding restore_table
   restoring bytes are = go (restore_of bytes) refl
     where
-      go : (a : Restored) → restore_of bytes ≡ a → AllSound (rst.table_after a (restored_table bytes) t)
-      go (Restored.Placed n) e = restored_sound bytes n are (is_taken bytes n e)
-      go (Restored.Refused r) e = all
+      go : (a : Result ℕ Refusal) → restore_of bytes ≡ a → AllSound (rst.table_after a (restored_table bytes) t)
+      go (Ok n) e = restored_sound bytes n are (is_taken bytes n e)
+      go (Err r) e = all
 
   step_sound : (s : Step) → Bytes s → Links s → AllSound (table_at t s)
   step_sound (arrives b bytes) are l = arrival b bytes are l

@@ -1,4 +1,5 @@
 -- One step: table and book give the same answer, and the table goes on showing the book. Assumes nothing.
+use Rattle.std.specs.Prelude.{Result, Ok, Err}
 use Prim.Native.Nat.{ℕ, suc, ◌+◌, ◌-◌, ◌^◌, ◌≤◌, ◌<◌}
 use mathlib.Core.Path.{◌≡◌, refl, sym, ap, ap₂, subst, subst⁻¹, ◌∙◌}
 use mathlib.Core.Bool.{Bool, true, false, cond}
@@ -10,12 +11,16 @@ use lib.Dec.{eqb, leb, ltb}
 use Rattle.wire.specs.Bytes.{part, little}
 use Rattle.wire.proofs.Digits.{AllBytes}
 use Rattle.wire.proofs.Parts.{byte_low}
-use Rattle.message.specs.Order.{first_refusal}
+use Rattle.message.specs.Order.{first_refusal, reason_of}
 use Rattle.message.specs.Layout.{only}
 use Rattle.message.specs.Value.{bits, header, address_of, exchanged_by, message_of}
 use Rattle.message.specs.Refusals.{total}
-use Rattle.message.specs.Answers.{refusal, head_of}
+use Rattle.message.specs.Answers.{head_of}
 use Rattle.message.specs.declared.value.Message.{Message}
+use Rattle.message.specs.declared.answers.Reason.TheVariants.{NoRow}
+use Rattle.message.specs.declared.answers.Refusal.{Refusal}
+use Rattle.message.specs.declared.answers.Head.{Head}
+use Rattle.message.specs.Reasons.{refusal}
 use Rattle.window.specs.Rule.{position_after}
 use Rattle.window.specs.Rows.{marks_held, behind_of, opened, rolled_of}
 use Rattle.window.specs.History.{verdict_of}
@@ -28,13 +33,12 @@ use Rattle.window.proofs.History.{Stands, stands_opened, stands_on, verdict_on, 
 use Rattle.window.proofs.Promises.{gateway, name_stays, gateway_stray_bit}
 use Rattle.window.proofs.Rows.{fits_gateway}
 use Rattle.table.specs.Table.{rows, one_if, freed, row_of, with_row, is_free, find_of, free_of, in_use}
-use Rattle.admission.specs.Admission.{no_row, rolled_in, answer_of, table_after, table_by}
+use Rattle.admission.specs.Admission.{no_row, rolled_in, answer_of, table_after, table_by, received, put_if_new}
 use Rattle.reception.specs.Receiving.{Beside, sender_of, answer_to, receiving_order, receive_of, receive_table}
 use Rattle.admission.specs.declared.answers.Received.{Received}
-use Rattle.reception.specs.declared.answers.Removed.TheVariants as Removed
 use Rattle.admission.specs.Admission as rcv
 use Rattle.reception.specs.Removing.{remove_of, remove_table}
-use Rattle.history.specs.History.{Book, Step, arrives, leaves, restores, of_arrival, of_leaving, answer_at, table_at, is_new, joined, one_more, full_for, removed_by, under, receive_by, answer_by, book_after, book_without, book_at}
+use Rattle.history.specs.History.{Book, Step, arrives, leaves, restores, of_arrival, of_leaving, answer_at, table_at, is_new, joined, one_more, full_for, removed_by, under, receive_by, answer_by, book_after, book_without, book_at, book_joined}
 use Rattle.history.specs.Telling.{Bytes, Told}
 use Rattle.reception.proofs.Cleared.{has_row}
 use Rattle.reception.proofs.WasRead.{new_of}
@@ -157,7 +161,7 @@ module _ {t : List ℕ} {book : Book} (told : Told t book) where
   pub arrival : (b : Beside) (bytes : List ℕ) → AllBytes bytes
       → (receive_of b bytes t ≡ receive_by book b bytes) × Told (receive_table b bytes t) (book_at book (arrives b bytes))
   unfolding receive_of receive_by receive_table table_by book_at answer_of
-  arrival b bytes all = (same, subst (λ (a : Received). Told (receive_table b bytes t) (book_after a node key id book)) same (go (receive_of b bytes t) refl))
+  arrival b bytes all = (same, subst (λ (a : Result Received Refusal). Told (receive_table b bytes t) (book_after a node key id book)) same (go (receive_of b bytes t) refl))
     where
       m : Message
       m = message_of bytes
@@ -177,12 +181,16 @@ module _ {t : List ℕ} {book : Book} (told : Told t book) where
       same : receive_of b bytes t ≡ receive_by book b bytes
       same = ap₂ (λ (f : Bool) (v : Verdict). answer_of (first_refusal (receiving_order b bytes f)) v (answer_to b (message_of bytes)) (message_of bytes) (head_of (message_of bytes))) both.full both.verdict
 
-      go : (a : Received) → receive_of b bytes t ≡ a → Told (table_after a t (rcv.row_for t node key) (rolled_in t node key id).row) (book_after a node key id book)
-      go (Received.New v h n) e =
+      by : (v : Verdict) (x : Message) (h : Head) (n : ℕ) → receive_of b bytes t ≡ Ok (received v x h n)
+          → Told (put_if_new v t (rcv.row_for t node key) (rolled_in t node key id).row) (book_joined v node key id book)
+      by Verdict.New v h n e =
           let w = new_of (first_refusal (receiving_order b bytes (no_row t node key))) (rolled_in t node key id).verdict (message_of bytes) v (head_of (message_of bytes)) h (only (message_of bytes).wants (total (answer_to b (message_of bytes)) [])) n e in
-          both.moves (has_row b bytes (no_row t node key) w.0) w.3
-      go (Received.Duplicate v h n) e = told
-      go (Received.Refused r) e = told
+          both.moves (has_row b bytes (no_row t node key) (ap reason_of w.0)) w.3
+      by Verdict.Duplicate v h n e = told
+
+      go : (a : Result Received Refusal) → receive_of b bytes t ≡ a → Told (table_after a t (rcv.row_for t node key) (rolled_in t node key id).row) (book_after a node key id book)
+      go (Ok a) e = by a.verdict a.taken.message a.taken.head a.reply e
+      go (Err r) e = told
 
   leaving : (node key : ℕ) → (remove_of t node key ≡ removed_by (book.lists node key)) × Told (remove_table t node key) (book_at book (leaves node key))
   unfolding remove_of remove_table book_at
@@ -195,7 +203,7 @@ module _ {t : List ℕ} {book : Book} (told : Told t book) where
       narrow = record { key = omega arith; highest = omega arith; marks = omega arith }
 
       Left : List (List ℕ) → Bool → Type 0
-      Left those b = (cond b Removed.Done (Removed.Refused (refusal 21)) ≡ removed_by those) × Told (cond b (with_row t (find_of rows t node key) freed) t) (book_without those node key book)
+      Left those b = (cond b (Ok tt) (Err (refusal NoRow)) ≡ removed_by those) × Told (cond b (with_row t (find_of rows t node key) freed) t) (book_without those node key book)
 
       without : (l : find_of rows t node key < rows) → Told (with_row t (find_of rows t node key) freed) (book_without (book.lists node key) node key book)
       without l =

@@ -3,16 +3,18 @@
 -- Two numbers it takes over: `rows`, the 32 of refusal 20, and `marks_held`, the 15 of the rule of positions. A restore that is taken replaces all
 -- lists: a restored name's list starts with what its record says, the position of the highest id and those of the marks, and holds nothing else of what
 -- was accepted before. Assumes nothing.
-use Rattle.std.specs.Prelude.{ℕ, ◌+◌, ◌-◌, Bool, true, false, ◌&&◌, cond, List, [], ◌∷◌, map, eqb, leb}
+use Rattle.std.specs.Prelude.{ℕ, ◌+◌, ◌-◌, Bool, true, false, ◌&&◌, cond, List, [], ◌∷◌, map, eqb, leb, Result, Ok, Err}
 use Rattle.message.specs.Order.{first_refusal}
 use Rattle.message.specs.Value.{message_of}
-use Rattle.message.specs.Answers.{refusal, head_of}
+use Rattle.message.specs.Answers.{head_of}
+use Rattle.message.specs.declared.answers.Reason.TheVariants.{NoRow}
+use Rattle.message.specs.declared.answers.Refusal.{Refusal}
+use Rattle.message.specs.Reasons.{refusal}
+use Rattle.window.specs.declared.Verdict.{Verdict}
 use Rattle.window.specs.Rule.{position_after, accepts}
 use Rattle.window.specs.Rows.{marks_held, behind_of, list_of}
 use Rattle.window.specs.History.{verdict_of}
 use Rattle.admission.specs.declared.answers.Received.{Received}
-use Rattle.reception.specs.declared.answers.Removed.{Removed}
-use Rattle.records.specs.declared.answers.Restored.{Restored}
 use Rattle.table.specs.Table.{rows, named, kept}
 use Rattle.admission.specs.Admission.{answer_of}
 use Rattle.reception.specs.Receiving.{Beside, sender_of, answer_to, receiving_order, receive_of, receive_table}
@@ -27,9 +29,9 @@ pub data Step : Type 0 where
 
 -- its answer
 pub data Answer : Type 0 where
-  of_arrival : Received → Answer
-  of_leaving : Removed → Answer
-  of_restoring : Restored → Answer
+  of_arrival : Result Received Refusal → Answer
+  of_leaving : Result (Unit {0}) Refusal → Answer
+  of_restoring : Result ℕ Refusal → Answer
 
 -- ---- by the table
 
@@ -88,16 +90,16 @@ full_for [] n = leb rows n
 full_for (ps ∷ rest) n = false
 
 -- 21: nothing is open under the name
-abbrev pub removed_by : List (List ℕ) → Removed
-removed_by [] = Removed.Refused (refusal 21)
-removed_by (ps ∷ rest) = Removed.Done
+abbrev pub removed_by : List (List ℕ) → Result (Unit {0}) Refusal
+removed_by [] = Err (refusal NoRow)
+removed_by (ps ∷ rest) = Ok tt
 
 -- the lists of one name replaced: every other name keeps its own
 unfoldable pub under : (ℕ → ℕ → List (List ℕ)) → ℕ → ℕ → List (List ℕ) → ℕ → ℕ → List (List ℕ)
 under lists node key those n k = cond (eqb n node && eqb k key) those (lists n k)
 
 -- the answer to a message, in the order of receiving, by the full list of its name
-unfoldable pub receive_by : Book → Beside → List ℕ → Received
+unfoldable pub receive_by : Book → Beside → List ℕ → Result Received Refusal
 receive_by book b bytes =
     let m = message_of bytes in
     let those = book.lists (sender_of b.link m) m.key in
@@ -110,11 +112,14 @@ answer_by book (leaves node key) = of_leaving (removed_by (book.lists node key))
 answer_by book (restores bytes) = of_restoring (restore_of bytes)
 
 -- only a new message joins a list
-abbrev pub book_after : Received → ℕ → ℕ → ℕ → Book → Book
-book_after (Received.New m h len) node key id book =
+abbrev pub book_joined : Verdict → ℕ → ℕ → ℕ → Book → Book
+book_joined Verdict.New node key id book =
     record { lists = under book.lists node key (joined key (book.lists node key) id); count = one_more (book.lists node key) book.count }
-book_after (Received.Duplicate m h len) node key id book = book
-book_after (Received.Refused r) node key id book = book
+book_joined Verdict.Duplicate node key id book = book
+
+abbrev pub book_after : Result Received Refusal → ℕ → ℕ → ℕ → Book → Book
+book_after (Ok answer) node key id book = book_joined answer.verdict node key id book
+book_after (Err r) node key id book = book
 
 -- a removal ends the first list of the name
 abbrev pub book_without : List (List ℕ) → ℕ → ℕ → Book → Book
@@ -130,9 +135,9 @@ restored_book bytes =
     }
 
 -- it takes the place of the old one, all of which stays where restoring refuses
-abbrev pub book_restored : Restored → Book → Book → Book
-book_restored (Restored.Placed n) new old = new
-book_restored (Restored.Refused r) new old = old
+abbrev pub book_restored : Result ℕ Refusal → Book → Book → Book
+book_restored (Ok n) new old = new
+book_restored (Err r) new old = old
 
 -- the book after a step
 unfoldable pub book_at : Book → Step → Book

@@ -1,22 +1,20 @@
 -- What a value that is written has: each condition of a refusal is false. That of 27 stands apart, so that laws can speak of a packet that has another
 -- length than its header gives. Assumes nothing.
-use Prim.Native.Nat.{ℕ, zero, suc, ◌≤◌}
+use Rattle.std.specs.Prelude.{Ok}
+use Prim.Native.Nat.{ℕ, ◌≤◌}
 use mathlib.Core.Path.{◌≡◌, refl}
 use mathlib.Core.Bool.{true, false, not, ◌||◌}
-use mathlib.Core.List.{List}
-use native.Mathlib.Omega.{arith}
+use mathlib.Core.List.{List, [], ◌∷◌}
 use borrow.Author.Tests.{ltb-false, eqb-true, not-false}
 use lib.Dec.{eqb}
 use lib.ListN.{length}
-use Rattle.message.specs.Order.{first, NoneOf}
+use Rattle.message.specs.Order.{Condition, condition, first, NoneOf}
 use Rattle.message.specs.Layout.{check_length}
 use Rattle.message.specs.Refusals.{bad_version, old_tunnel, bad_encrypt, bad_key, bad_source, bad_destination, old_asks, empty_packet, wrong_packet, wrong_packet_length, stray_address, stray_exchange, stray, total}
 use Rattle.message.specs.Answers.{writing}
 use Rattle.judge.specs.Writing.{writing_order, write_of}
 use Rattle.message.specs.declared.value.Message.{Message}
-use Rattle.message.specs.declared.answers.Writing.TheVariants.{Written}
 use Rattle.message.proofs.Logic.{or_false}
-use Rattle.message.proofs.Order.{numbered, none_first}
 
 pub record ClearWrite (m : Message) (p c : List ℕ) (r : ℕ) : Type 0 where
   pub version : bad_version m.version ≡ false
@@ -66,24 +64,20 @@ length_clear : (m : Message) (payload check : List ℕ) (room : ℕ) → NoneOf 
 unfolding writing_order
 length_clear m payload check room (_, (_, (_, (_, (_, (_, (_, (_, (_, (sized, _)))))))))) = sized
 
-writing_numbered : (m : Message) (payload check : List ℕ) (room : ℕ) → numbered (writing_order m payload check room) ≡ true
-unfolding writing_order
-writing_numbered m payload check room = refl
-
-written_of : (k t n : ℕ) → writing k t ≡ Written n → (k ≡ 0) × (t ≡ n)
-written_of zero t n e = (refl, cc)
-written_of (suc k) t n e = let z : ◌≡◌ {A = ℕ} 0 1 = cc in let w : ⊥ = omega arith in absurd w
-
 -- a value that was written: nothing refuses it, and the length is that of the message
-pub written_legal : (m : Message) (payload check : List ℕ) (room n : ℕ) → write_of m payload check room ≡ Written n → NoneOf (writing_order m payload check room)
-unfolding write_of
-written_legal m payload check room n e =
-    none_first (writing_order m payload check room) (writing_numbered m payload check room) (written_of _ _ n e).0
+written_of : (order : List Condition) (t n : ℕ) → writing (first order) t ≡ Ok n → NoneOf order × (t ≡ n)
+written_of [] t n e = (tt, cc)
+written_of (condition reason true k ∷ order) t n e = cc
+written_of (condition reason false k ∷ order) t n e = let w = written_of order t n e in ((refl, w.0), w.1)
 
-pub written : (m : Message) (payload check : List ℕ) (room n : ℕ) → write_of m payload check room ≡ Written n → (total m payload ≡ n) × ClearWrite m payload check room
+pub written_legal : (m : Message) (payload check : List ℕ) (room n : ℕ) → write_of m payload check room ≡ Ok n → NoneOf (writing_order m payload check room)
+unfolding write_of
+written_legal m payload check room n e = (written_of (writing_order m payload check room) _ n e).0
+
+pub written : (m : Message) (payload check : List ℕ) (room n : ℕ) → write_of m payload check room ≡ Ok n → (total m payload ≡ n) × ClearWrite m payload check room
 unfolding write_of
 written m payload check room n e =
-    ((written_of (first (writing_order m payload check room)) (total m payload) n e).1, write_clear m payload check room (written_legal m payload check room n e))
+    ((written_of (writing_order m payload check room) _ n e).1, write_clear m payload check room (written_legal m payload check room n e))
 
-pub written_sized : (m : Message) (payload check : List ℕ) (room n : ℕ) → write_of m payload check room ≡ Written n → wrong_packet_length m payload ≡ false
+pub written_sized : (m : Message) (payload check : List ℕ) (room n : ℕ) → write_of m payload check room ≡ Ok n → wrong_packet_length m payload ≡ false
 written_sized m payload check room n e = length_clear m payload check room (written_legal m payload check room n e)

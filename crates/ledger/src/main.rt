@@ -2,94 +2,72 @@
 // writes back into a buffer of 32 bytes that held `a5` each.
 #![tactic(auto)]
 
-use format::{Message, Reading};
-use std::io;
+use format::Message;
+use std::{fmt, io};
 
-// A name and a number, and a space after them.
-fn decimal(rt: &impl Print, name: &str, x: u64) -> io::Result<()> {
-    print!(rt; "{name}{x} ")
-}
+// Each field of a value after its name, a node as it stands on the wire, and a letter for each flag that is set.
+#[derive(Clone, Copy)]
+struct Value(Message);
 
-// The same of a field of four bytes.
-fn decimal32(rt: &impl Print, name: &str, x: u32) -> io::Result<()> {
-    decimal(rt, name, x as u64)
-}
-
-// A name and a node, as it stands on the wire.
-fn node(rt: &impl Print, name: &str, x: u64) -> io::Result<()> {
-    print!(rt; "{name}{x:016x} ")
-}
-
-// The address fields of a value.
-fn address(rt: &impl Print, m: Message) -> io::Result<()> {
-    decimal(rt, "version ", m.version as u64)?;
-    decimal(rt, "encrypt ", m.encrypt as u64)?;
-    decimal32(rt, "id ", m.id)?;
-    node(rt, "source ", m.source)?;
-    node(rt, "destination ", m.destination)?;
-    decimal(rt, "key ", m.key as u64)
-}
-
-// Its exchange fields.
-fn exchange(rt: &impl Print, m: Message) -> io::Result<()> {
-    decimal(rt, "type ", m.kind as u64)?;
-    decimal(rt, "exchange ", m.exchange as u64)?;
-    decimal32(rt, "profile ", m.profile)?;
-    decimal32(rt, "acknowledged ", m.acknowledged)
-}
-
-// A letter where the flag is set.
-fn flag(rt: &impl Print, letter: &str, on: bool) -> io::Result<()> {
-    if on {
-        rt.print(letter)?;
+impl fmt::Display for Value {
+    fn fmt<W: fmt::Write>(&self, f: &mut fmt::Formatter<W>) -> fmt::Result {
+        let m = self.0;
+        write!(
+            f,
+            "version {} encrypt {} id {} source {:016x} destination {:016x} key {} ",
+            m.version, m.encrypt, m.id, m.source, m.destination, m.key
+        )?;
+        write!(
+            f,
+            "type {} exchange {} profile {} acknowledged {} ",
+            m.kind, m.exchange, m.profile, m.acknowledged
+        )?;
+        let flags = [
+            ("T", m.tunnelled),
+            ("S", m.sourced),
+            ("D", m.destined),
+            ("I", m.initiator),
+            ("A", m.acknowledges),
+            ("R", m.wants),
+        ];
+        for (letter, on) in flags {
+            if on {
+                f.write_str(letter)?;
+            }
+        }
+        Ok(())
     }
-    Ok(())
 }
 
-fn flags(rt: &impl Print, m: Message) -> io::Result<()> {
-    flag(rt, "T", m.tunnelled)?;
-    flag(rt, "S", m.sourced)?;
-    flag(rt, "D", m.destined)?;
-    flag(rt, "I", m.initiator)?;
-    flag(rt, "A", m.acknowledges)?;
-    flag(rt, "R", m.wants)?;
-    rt.println("")
-}
+// Bytes in hexadecimal.
+#[derive(Clone, Copy)]
+struct Hex<'a>(&'a [u8]);
 
-// All bytes of a buffer.
-fn hex(rt: &impl Print, bytes: &[u8]) -> io::Result<()> {
-    for byte in bytes {
-        print!(rt; "{byte:02x}")?;
+impl fmt::Display for Hex<'_> {
+    fn fmt<W: fmt::Write>(&self, f: &mut fmt::Formatter<W>) -> fmt::Result {
+        for byte in self.0 {
+            write!(f, "{byte:02x}")?;
+        }
+        Ok(())
     }
-    rt.println("")
 }
 
-// A value written back: all bytes of the buffer afterwards.
-fn written_back(rt: &impl Print, m: Message, payload: &[u8], check: &[u8]) -> io::Result<()> {
-    let mut out = [0xa5u8; 32];
-    format::write(m, payload, check, &mut out);
-    hex(rt, &out)
-}
-
-// What reading says of a message.
+// What reading says of a message; and its value written back: all bytes of the buffer afterwards.
 fn show(rt: &impl Print, bytes: &[u8]) -> io::Result<()> {
     let reading = format::read(bytes);
     match reading {
-        Reading::Taken(m, _) => {
-            address(rt, m)?;
-            exchange(rt, m)?;
-            flags(rt, m)?;
-            written_back(
-                rt,
-                m,
-                format::payload(bytes, reading),
-                format::check(bytes, reading),
+        Ok(taken) => {
+            let mut out = [0xa5u8; 32];
+            let parts = format::split(bytes, reading);
+            let _ = format::write(taken.message, parts, &mut out);
+            println!(rt;
+                "{}
+{}",
+                Value(taken.message),
+                Hex(&out)
             )
         }
-        Reading::Refused(refusal) => {
-            decimal(rt, "refused ", refusal.number as u64)?;
-            rt.println("")
-        }
+        Err(refusal) => println!(rt; "refused {} ", refusal.reason.number()),
     }
 }
 

@@ -47,6 +47,18 @@ left_more s h =
     ∙ within_more (length s) s h
     ∙ within_same (length s) (length (drop (passed_of s) s)) (drop (passed_of s) s) (omega arith) (omega arith)
 
+-- what stands after a message is shorter
+pub shorter : {after : List ℕ} (s : List ℕ) → 0 < passed_of s → after ≡ drop (passed_of s) s → length after < length s
+shorter s h e =
+    let l = length-drop (passed_of s) s in
+    let p = passed_within s in
+    let m = ap length e in
+    omega arith
+
+-- what is left over of what stands after it is left over of the stream
+pub left_after : (s rest after : List ℕ) → left_of s ≡ left_of rest → 0 < passed_of rest → after ≡ drop (passed_of rest) rest → left_of s ≡ left_of after
+left_after s rest after e h p = e ∙ left_more rest h ∙ ap left_of (sym p)
+
 pub left_on : (s : List ℕ) (at passed : ℕ) → passed ≡ passed_of (drop at s) → 0 < passed → left_of (drop at s) ≡ left_of (drop (at + passed) s)
 left_on s at passed e h =
     left_more (drop at s) (omega arith)
@@ -54,6 +66,10 @@ left_on s at passed e h =
     ∙ ap left_of (drop-drop passed at s)
 
 -- none further
+pub left_done : (s rest : List ℕ) → left_of s ≡ left_of rest → passed_of rest ≡ 0 → length rest ≡ left_of s
+unfolding left_of
+left_done s rest e z = sym (e ∙ within_end (length rest) rest (omega arith))
+
 pub left_end : (s : List ℕ) (at passed : ℕ) → passed ≡ passed_of (drop at s) → passed ≤ 0 → left_of (drop at s) ≡ length s - at
 unfolding left_of
 left_end s at passed e h = within_end (length (drop at s)) (drop at s) (omega arith) ∙ length-drop at s

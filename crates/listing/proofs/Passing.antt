@@ -1,13 +1,12 @@
 -- How far a message reaches: not past the end of the stream, and past its length field. What it does to the table. Assumes nothing.
-use Prim.Native.Nat.{ℕ, ◌+◌, ◌-◌, ◌≤◌, ◌<◌}
+use Prim.Native.Nat.{ℕ, ◌+◌, ◌≤◌, ◌<◌}
 use mathlib.Core.Path.{◌≡◌, refl, sym, ap, ◌∙◌}
 use mathlib.Core.List.{List}
 use native.Mathlib.Omega.{arith}
-use lib.ListN.{length, take, drop, length-drop}
-use lib.Seq.{take_all}
+use lib.ListN.{length, drop}
 use Rattle.message.specs.declared.answers.Unframed.{Unframed}
 use Rattle.message.specs.declared.answers.Unframed.TheVariants.{Whole, Incomplete}
-use Rattle.stream.specs.Stream.{unframe_of, framed_message}
+use Rattle.stream.specs.Stream.{unframe_of, framed_message, rest_in, framed_rest}
 use Rattle.stream.proofs.Streams.{whole_there}
 use Rattle.listing.specs.Listing.{heard_table, passed_in, passed_of, table_in, table_past}
 
@@ -30,15 +29,10 @@ pub passed_two : (s : List ℕ) → 0 < passed_of s → 2 ≤ passed_of s
 unfolding passed_of
 passed_two s h = passed_field (unframe_of s) h
 
--- what is passed of the rest from a place on
-pub passed_rest : {r : ℕ} (s : List ℕ) (at : ℕ) → at ≤ length s
-    → (r ≡ passed_of (take (length s - at) (drop at s))) × (r ≤ length (take (length s - at) (drop at s)))
-    → (at + r ≤ length s) × (r ≡ passed_of (drop at s))
-passed_rest s at h p =
-    let l : length (drop at s) ≡ length s - at = length-drop at s in
-    let e : take (length s - at) (drop at s) ≡ drop at s = take_all (length s - at) (drop at s) (omega arith) in
-    let m : length (take (length s - at) (drop at s)) ≡ length (drop at s) = ap length e in
-    (let q = p.1 in omega arith, p.0 ∙ ap passed_of e)
+-- what stands after a whole message
+pub rest_whole : (s : List ℕ) (n : ℕ) → unframe_of s ≡ Whole n → framed_rest s ≡ drop (passed_of s) s
+unfolding passed_of framed_rest
+rest_whole s n e = ap (rest_in s) e ∙ sym (ap (λ (u : Unframed). drop (passed_in u) s) e)
 
 -- no more is passed than there is
 pub passed_within : (s : List ℕ) → passed_of s ≤ length s

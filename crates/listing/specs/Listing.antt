@@ -1,17 +1,24 @@
 -- What is printed of an answer, and how far a message reaches. Assumes nothing.
-use Rattle.std.specs.Prelude.{ℕ, zero, suc, ◌+◌, true, cond, List, ltb, length, drop}
+use Rattle.std.specs.Prelude.{ℕ, zero, suc, ◌+◌, true, cond, List, ltb, length, drop, Result, Ok, Err}
 use Rattle.lines.specs.declared.Said.{Said}
 use Rattle.admission.specs.declared.answers.Received.{Received}
+use Rattle.message.specs.Reasons.{number}
+use Rattle.message.specs.declared.answers.Refusal.{Refusal}
 use Rattle.message.specs.declared.answers.Unframed.{Unframed}
 use Rattle.message.specs.declared.answers.Unframed.TheVariants.{Whole, Incomplete}
 use Rattle.reception.specs.Receiving.{beside, receive_of, receive_table}
 use Rattle.stream.specs.Stream.{unframe_of, framed_message}
+use Rattle.window.specs.declared.Verdict.{Verdict}
 
--- the verdict with the message id, or the refusal's number and offset
-abbrev pub said_of : Received → Said
-said_of (Received.New m h len) = Said.New m.id
-said_of (Received.Duplicate m h len) = Said.Duplicate m.id
-said_of (Received.Refused refusal) = Said.Refused refusal.number refusal.offset
+-- the verdict with the message id
+abbrev pub verdict_of : Verdict → ℕ → Said
+verdict_of Verdict.New id = Said.New id
+verdict_of Verdict.Duplicate id = Said.Duplicate id
+
+-- that, or the refusal's number and offset
+abbrev pub said_of : Result Received Refusal → Said
+said_of (Ok received) = verdict_of received.verdict received.taken.message.id
+said_of (Err refusal) = Said.Refused (number refusal.reason) refusal.offset
 
 -- what the line says of a message, and the table after it: own node 02 00 00 00 00 00 00 01, link node zero, the check passed, id 0, room of 64 bytes
 abbrev pub heard_of : List ℕ → List ℕ → Said

@@ -1,31 +1,38 @@
 // The messages of a stream, received one after another, with a line for each.
-ghost use Rattle.std.specs.Prelude.{◌≡◌, ◌≤◌, length};
+ghost use Rattle.std.specs.Prelude.{◌≡◌, ◌<◌, length, drop, MatchOption};
 ghost use Rattle.listing.specs.Listing.{said_of, heard_of, heard_table, passed_of, table_past, left_of};
 
+use crate::output::Output;
 use lines::Said;
-use message::{Unframed, layout};
-use reception::Received;
-use std::io;
+use message::{Refusal, Unframed};
+use reception::{Delivery, Received};
 use table::WORDS;
+use window::Verdict;
 
-// The own node; the link's node, of which nothing is known; the id of the acknowledgements.
+// The own node.
 const OWN: u64 = 0x0200_0000_0000_0001;
 
-const LINK: u64 = 0;
-
-const ID: u32 = 0;
+// How each message comes: of the link's node nothing is known, the checks count as passed, and acknowledgements have the id 0.
+const DELIVERY: Delivery = Delivery {
+    own: OWN,
+    link: 0,
+    passed: true,
+    id: 0,
+};
 
 // The room for an acknowledgement, which is not printed.
 const ROOM: usize = 64;
 
 // What the line says of an answer.
-fn said(answer: Received) -> Said
+fn said(answer: Result<Received, Refusal>) -> Said
     ensures { result ≡ said_of answer }
 {
     match answer {
-        Received::New(m, _, _) => Said::New(m.id),
-        Received::Duplicate(m, _, _) => Said::Duplicate(m.id),
-        Received::Refused(refusal) => Said::Refused(refusal.number, refusal.offset),
+        Ok(received) => match received.verdict {
+            Verdict::New => Said::New(received.taken.message.id),
+            Verdict::Duplicate => Said::Duplicate(received.taken.message.id),
+        },
+        Err(refusal) => Said::Refused(refusal.reason.number(), refusal.offset),
     }
 }
 
@@ -35,75 +42,40 @@ fn hear(message: &[u8], table: &mut [u64; WORDS]) -> Said
     ensures table { table.new ≡ heard_table message.now table.old }
 {
     let mut room = [0u8; ROOM];
-    let answer = reception::receive(OWN, LINK, true, ID, message, table, &mut room);
-    said(answer)
+    said(reception::receive(DELIVERY, message, table, &mut room))
 }
 
-// Prints a line, where all that was to be printed before it is printed. A write that fails is kept, and nothing is printed after it:
-// the messages that follow are still received.
-fn print(rt: &impl Print, line: &[u8], printed: &mut io::Result<()>) {
-    if printed.is_ok() {
-        *printed = rt.write_all(line);
-    }
-}
-
-// Receives a message and prints its line.
-fn show(
-    rt: &impl Print,
-    ordinal: u64,
-    message: &[u8],
-    table: &mut [u64; WORDS],
-    printed: &mut io::Result<()>,
-)
-    ensures { table.new ≡ heard_table message.now table.old }
-{
-    let heard = hear(message, table);
-    let mut text = [0u8; lines::LINE];
-    let count = lines::line(ordinal, heard, &mut text);
-    print(rt, &text[..count], printed);
-}
-
-// Shows the message at the front of a stream, if it is whole. Gives the number of bytes passed, 0 if it
-// is not.
-fn step(
-    rt: &impl Print,
-    stream: &[u8],
+// Shows the message at the front of a stream, if it is whole: its line is printed. Gives what stands after it.
+fn step<'a>(
+    output: &mut Output<'_, impl Print>,
+    stream: &'a [u8],
     ordinal: u64,
     table: &mut [u64; WORDS],
-    printed: &mut io::Result<()>,
-) -> usize
-    ensures result { (result ≡ passed_of stream.now) × (result ≤ length stream.now) }
+) -> Option<&'a [u8]>
+    ensures rest { MatchOption result (passed_of stream.now ≡ 0) (λ rest. (0 < passed_of stream.now) × (rest.now ≡ drop (passed_of stream.now) stream.now)) }
     ensures table { table.new ≡ table_past stream.now table.old }
 {
-    let frame = stream::unframe(stream);
-    match frame {
-        Unframed::Whole(len) => {
-            show(rt, ordinal, stream::framed_message(stream), table, printed);
-            layout::FRAME + len
+    match stream::unframe(stream) {
+        Unframed::Whole(_) => {
+            output.line(ordinal, hear(stream::framed_message(stream), table));
+            Some(stream::framed_rest(stream))
         }
-        Unframed::Incomplete(_) => 0,
+        Unframed::Incomplete(_) => None,
     }
-}
-
-// Prints the last line.
-pub(crate) fn finish(rt: &impl Print, left: u64, printed: &mut io::Result<()>) {
-    let mut text = [0u8; lines::LINE];
-    let count = lines::last(left, &mut text);
-    print(rt, &text[..count], printed);
 }
 
 // Lists a stream, from an empty table on. Gives the count of the bytes left over.
-pub(crate) fn list(rt: &impl Print, stream: &[u8], printed: &mut io::Result<()>) -> usize
+#[tactic(auto, using(crate::proofs::Left::shorter, crate::proofs::Left::left_after, crate::proofs::Left::left_done))]
+pub(crate) fn list(output: &mut Output<'_, impl Print>, stream: &[u8]) -> usize
     ensures { result ≡ left_of stream.now }
 {
-    let mut table = [0u64; WORDS];
-    let mut at = 0;
-    let mut ordinal: u64 = 1;
-    let mut passed = step(rt, stream, ordinal, &mut table, printed);
-    while 0 < passed {
-        at += passed;
-        ordinal += 1;
-        passed = step(rt, &stream[at..], ordinal, &mut table, printed);
+    let mut table = [0; WORDS];
+    let mut rest = stream;
+    for ordinal in 1.. {
+        let Some(after) = step(output, rest, ordinal, &mut table) else {
+            break;
+        };
+        rest = after;
     }
-    stream.len() - at
+    rest.len()
 }

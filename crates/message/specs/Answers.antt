@@ -1,52 +1,49 @@
--- The answers: for each case its refusal, of number 0 for none, and its values. Assumes nothing.
-use Rattle.std.specs.Prelude.{ℕ, zero, suc, cond, List, ◌++◌, eqb, drop}
+-- The answers: a value, or the refusal. Assumes nothing.
+use Rattle.std.specs.Prelude.{ℕ, List, ◌++◌, drop, Option, Some, None, Result, Ok, Err}
 use Rattle.message.specs.Layout.{head_length}
 use Rattle.message.specs.Value.{flags_of}
+use Rattle.message.specs.Reasons.{number, refusal}
 use Rattle.message.specs.declared.value.Message.{Message}
+use Rattle.message.specs.declared.answers.Reason.{Reason}
 use Rattle.message.specs.declared.answers.Refusal.{Refusal}
 use Rattle.message.specs.declared.answers.Head.{Head}
-use Rattle.message.specs.declared.answers.Reading.{Reading}
-use Rattle.message.specs.declared.answers.OuterReading.{OuterReading}
-use Rattle.message.specs.declared.answers.Writing.{Writing}
-
--- a refusal that points at no byte
-abbrev pub refusal : ℕ → Refusal
-refusal n = record { number = n; offset = 0 }
+use Rattle.message.specs.declared.answers.Taken.{Taken}
 
 -- the head of a value
 abbrev pub head_of : Message → Head
 head_of m = record { flags = flags_of m; length = head_length m }
 
--- reading: the value and its head, or the refusal
-abbrev pub as_taken : Message → Reading
-as_taken m = Reading.Taken m (head_of m)
+-- a refusal where there is one, and else this
+abbrev pub unless : {A : Type 0} → Option Refusal → A → Result A Refusal
+unless None a = Ok a
+unless (Some r) a = Err r
 
-abbrev pub reading : Refusal → Message → Reading
-reading r m = cond (eqb r.number 0) (as_taken m) (Reading.Refused r)
+-- a value with a head
+abbrev pub with_head : Message → Head → Taken
+with_head m h = record { message = m; head = h }
+
+-- reading: the value with its head, or the refusal
+abbrev pub as_taken : Message → Result Taken Refusal
+as_taken m = Ok (with_head m (head_of m))
+
+abbrev pub reading : Option Refusal → Message → Result Taken Refusal
+reading r m = unless r (with_head m (head_of m))
 
 -- outer reading: where the protected part starts and how long it is, or the refusal
-abbrev pub outer_reading : Refusal → ℕ → ℕ → OuterReading
-outer_reading r start len = cond (eqb r.number 0) (OuterReading.Protected start len) (OuterReading.Refused r)
+abbrev pub outer_reading : Option Refusal → ℕ → ℕ → Result (ℕ × ℕ) Refusal
+outer_reading r start len = unless r (start, len)
 
 -- writing, framing and saving: the length, or the refusal, which points at no byte
-abbrev pub writing : ℕ → ℕ → Writing
-writing zero len = Writing.Written len
-writing (suc n) len = Writing.Refused (refusal (suc n))
+abbrev pub writing : Option Reason → ℕ → Result ℕ Refusal
+writing None len = Ok len
+writing (Some reason) len = Err (refusal reason)
 
--- the refusal number of an answer
-abbrev pub reading_number : Reading → ℕ
-reading_number (Reading.Taken m h) = 0
-reading_number (Reading.Refused r) = r.number
-
-abbrev pub outer_number : OuterReading → ℕ
-outer_number (OuterReading.Protected start len) = 0
-outer_number (OuterReading.Refused r) = r.number
-
-abbrev pub writing_number : Writing → ℕ
-writing_number (Writing.Written len) = 0
-writing_number (Writing.Refused r) = r.number
+-- the refusal number of an answer: 0 where there is none
+abbrev pub number_in : {A : Type 0} → Result A Refusal → ℕ
+number_in (Ok a) = 0
+number_in (Err r) = number r.reason
 
 -- the buffer after writing, framing or saving: its first bytes replaced, as many as are written, or nothing changed
-abbrev pub buffer_after : Writing → List ℕ → List ℕ → List ℕ
-buffer_after (Writing.Written n) bytes old = bytes ++ drop n old
-buffer_after (Writing.Refused r) bytes old = old
+abbrev pub buffer_after : Result ℕ Refusal → List ℕ → List ℕ → List ℕ
+buffer_after (Ok n) bytes old = bytes ++ drop n old
+buffer_after (Err r) bytes old = old

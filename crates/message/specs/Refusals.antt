@@ -5,6 +5,7 @@ use Rattle.message.specs.Order.{Condition, ◌when◌}
 use Rattle.message.specs.Layout.{longest, encrypted, check_length, head_length, fixed_length}
 use Rattle.message.specs.Value.{bits, bit}
 use Rattle.message.specs.declared.value.Message.{Message}
+use Rattle.message.specs.declared.answers.Reason.TheVariants.{Key, Source, Destination}
 
 -- 1, of a length
 abbrev pub too_long : ℕ → Bool
@@ -108,7 +109,7 @@ total m payload = head_length m + length payload + check_length m
 -- 7, 8, 9: what the address fields decide, in the order that reading and writing share; their own orders spell it out
 unfoldable pub address_order : Message → List Condition
 address_order m =
-    7 when bad_key m.encrypt m.key
-    ∷ 8 when bad_source m.sourced m.source
-    ∷ 9 when bad_destination m.destined m.destination
+    Key when bad_key m.encrypt m.key
+    ∷ Source when bad_source m.sourced m.source
+    ∷ Destination when bad_destination m.destined m.destination
     ∷ []

@@ -6,5 +6,5 @@ mod answers;
 pub mod layout;
 mod value;
 
-pub use answers::{Head, OuterReading, Reading, Refusal, Unframed, Writing};
-pub use value::{Message, body_at, body_of, check_length, head_length, only_of};
+pub use answers::{Head, Reason, Refusal, Taken, Unframed};
+pub use value::{Message, body_at, only_of};

@@ -4,11 +4,15 @@ ghost use Rattle.message.specs.Layout.{only, body_at, body_of, check_length, hea
 
 use crate::layout;
 
-// Whether a field is present is told by the flags alone, never by the field being zero. The order is that in
-// memory: `source` lies where a refusal has its `offset`, and is as wide, so an answer, which is a value or a
-// refusal, stays in registers.
-#[derive(Clone, Copy)]
+// Whether a field is present is told by the flags alone, never by the field being zero: by `sourced`, `destined`, `encrypt` and
+// `acknowledges`, each beside its field, and of the exchange fields by `tunnelled`. They make no `Option`, since `write` refuses
+// with 14 a field that is absent and not zero (`stray_address`, `stray_exchange`), and C's arrays hold it so. Version and encrypt
+// type are numbers and no enums, since `write` refuses all others with 3 and 6 (`bad_version`, `bad_encrypt`). The order is that in
+// memory: `id` and `source` lie where a refusal has its reason and its offset, and are as wide, so an answer, which is a value or
+// a refusal, stays in registers.
+#[derive(Clone, Copy, Debug, PartialEq, Eq)]
 pub struct Message {
+    pub id: u32,
     // 1 or 2.
     pub version: u8,
     // T: an IP packet in place of the exchange fields and the payload.
@@ -17,23 +21,22 @@ pub struct Message {
     pub sourced: bool,
     // D: the destination is present.
     pub destined: bool,
-    // 0 plain, 1 encrypted: with a key id and check bytes.
-    pub encrypt: u8,
     // EUI[0] is the most significant byte.
     pub source: u64,
     pub destination: u64,
-    pub id: u32,
-    // Key type in bits 15 to 12, key number below.
-    pub key: u16,
+    // 0 plain, 1 encrypted: with a key id and check bytes.
+    pub encrypt: u8,
     // I: sent by the one who began the exchange.
     pub initiator: bool,
     // A: the acknowledged id is present.
     pub acknowledges: bool,
     // R: an acknowledgement is wanted.
     pub wants: bool,
+    // Key type in bits 15 to 12, key number below.
+    pub key: u16,
+    pub exchange: u16,
     // The message type, within its profile.
     pub kind: u8,
-    pub exchange: u16,
     pub profile: u32,
     pub acknowledged: u32,
 }
@@ -55,27 +58,33 @@ pub fn body_at(sourced: bool, destined: bool, encrypted: bool) -> usize
         + only_of(encrypted, layout::KEY)
 }
 
-// The same, of a value.
-pub fn body_of(m: Message) -> usize
-    ensures { (result ≡ body_of m) × (result ≤ 24) }
-{
-    body_at(m.sourced, m.destined, m.encrypt == layout::ENCRYPTED)
-}
-
-// The length of the check: 0 of a plain message.
-pub fn check_length(m: Message) -> usize
-    ensures { (result ≡ check_length m) × (result ≤ 20) }
-{
-    only_of(m.encrypt == layout::ENCRYPTED, layout::CHECK)
-}
-
-// The length of all that stands before the payload or the packet.
-pub fn head_length(m: Message) -> usize
-    ensures { (result ≡ head_length m) × (result ≤ 36) }
-{
-    let body = body_of(m);
-    if m.tunnelled {
-        return body + layout::TUNNEL;
+impl Message {
+    // Where the exchange header or the tunnel version stands.
+    pub fn body_at(self) -> usize
+        ensures { (result ≡ body_of self) × (result ≤ 24) }
+    {
+        body_at(
+            self.sourced,
+            self.destined,
+            self.encrypt == layout::ENCRYPTED,
+        )
     }
-    body + layout::ACKNOWLEDGED_AT + only_of(m.acknowledges, layout::ACKNOWLEDGED)
+
+    // The length of the check: 0 of a plain message.
+    pub fn check_length(self) -> usize
+        ensures { (result ≡ check_length self) × (result ≤ 20) }
+    {
+        only_of(self.encrypt == layout::ENCRYPTED, layout::CHECK)
+    }
+
+    // The length of all that stands before the payload or the packet.
+    pub fn head_length(self) -> usize
+        ensures { (result ≡ head_length self) × (result ≤ 36) }
+    {
+        let body = self.body_at();
+        if self.tunnelled {
+            return body + layout::TUNNEL;
+        }
+        body + layout::ACKNOWLEDGED_AT + only_of(self.acknowledges, layout::ACKNOWLEDGED)
+    }
 }

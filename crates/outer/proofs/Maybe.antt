@@ -1,18 +1,24 @@
--- A field that may be absent has width 0 where it is. Assumes nothing.
-use Prim.Native.Nat.{ℕ, ◌+◌, ◌-◌, ◌≤◌}
-use mathlib.Core.Path.{◌≡◌, sym, ap, subst, ◌∙◌}
-use mathlib.Core.Bool.{Bool, true}
-use mathlib.Core.List.{List}
+-- A field that may be absent has width 0 where it is, and a get then reads none of its bytes. Assumes nothing.
+use Prim.Native.Nat.{ℕ, zero, suc, ◌+◌, ◌-◌, ◌≤◌}
+use mathlib.Core.Path.{◌≡◌, refl, ap, subst, ◌∙◌}
+use mathlib.Core.Bool.{Bool, true, false}
+use mathlib.Core.List.{List, []}
+use native.Mathlib.Omega.{arith}
 use lib.ListN.{length, take, drop}
 use Rattle.wire.specs.Bytes.{part, front}
+use Rattle.wire.proofs.Fronts.{front_short}
 use Rattle.wire.proofs.Places.{place_get}
 use Rattle.message.specs.Layout.{only}
 
-module _ (bytes : List ℕ) (present : Bool) (at w : ℕ) (p : present ≡ true) (h : at + only present w ≤ length bytes) where
-  -- the bytes of one that is present are there
-  pub maybe_room : at + w ≤ length bytes
-  maybe_room = subst (λ (b : Bool). at + only b w ≤ length bytes) p h
+front_none : (w : ℕ) → front w [] ≡ []
+unfolding front
+front_none zero = refl
+front_none (suc w) = front_short (suc w) [] (omega arith)
 
-  -- and what a get reads is the field
-  pub maybe_get : front w (take (at + w - at) (drop at bytes)) ≡ part bytes at (only present w)
-  maybe_get = place_get bytes at w maybe_room ∙ ap (λ (b : Bool). part bytes at (only b w)) (sym p)
+-- what a get reads between the places of a field and of the next one
+pub maybe_get : (bytes : List ℕ) (present : Bool) (at w n : ℕ) → n ≡ only present w → at + n ≤ length bytes → front w (take (at + n - at) (drop at bytes)) ≡ part bytes at (only present w)
+maybe_get bytes true at w n e h =
+    subst (λ (k : ℕ). front k (take (at + n - at) (drop at bytes)) ≡ part bytes at k) e (place_get bytes at n h)
+maybe_get bytes false at w n e h =
+    let none : at + n - at ≡ 0 = omega arith in
+    ap (λ (k : ℕ). front w (take k (drop at bytes))) none ∙ front_none w

@@ -1,18 +1,19 @@
 -- The payload or the packet, and the check, as parts of the bytes; empty where the bytes are refused or too few ("Bytes of a message").
 -- Assumes nothing.
-use Rattle.std.specs.Prelude.{ℕ, ◌+◌, ◌-◌, Bool, cond, List, [], leb, length, drop}
+use Rattle.std.specs.Prelude.{ℕ, ◌+◌, ◌-◌, Bool, cond, List, [], leb, length, drop, Result, Ok, Err}
 use Rattle.message.specs.Layout.{check_length, up_to_check}
-use Rattle.message.specs.declared.answers.Reading.{Reading}
-use Rattle.message.specs.declared.answers.Reading.TheVariants.{Taken, Refused}
+use Rattle.message.specs.declared.answers.Taken.{Taken}
+use Rattle.message.specs.declared.answers.Refusal.{Refusal}
 
 abbrev pub part_of : Bool → List ℕ → List ℕ
 part_of there bytes = cond there bytes []
 
-unfoldable pub payload_of : List ℕ → Reading → List ℕ
-payload_of bytes (Taken m h) =
-    part_of (leb (h.length + check_length m) (length bytes)) (up_to_check m h.length bytes)
-payload_of bytes (Refused r) = []
+unfoldable pub payload_of : List ℕ → Result Taken Refusal → List ℕ
+payload_of bytes (Ok taken) =
+    part_of (leb (taken.head.length + check_length taken.message) (length bytes)) (up_to_check taken.message taken.head.length bytes)
+payload_of bytes (Err r) = []
 
-unfoldable pub check_of : List ℕ → Reading → List ℕ
-check_of bytes (Taken m h) = part_of (leb (h.length + check_length m) (length bytes)) (drop (length bytes - check_length m) bytes)
-check_of bytes (Refused r) = []
+unfoldable pub check_of : List ℕ → Result Taken Refusal → List ℕ
+check_of bytes (Ok taken) =
+    part_of (leb (taken.head.length + check_length taken.message) (length bytes)) (drop (length bytes - check_length taken.message) bytes)
+check_of bytes (Err r) = []

@@ -1,7 +1,8 @@
 -- What the places promise: the parts of a message are where they say. Assumes nothing.
 
--- Only one outcome fits `store`.
-pub use Rattle.places.proofs.Outcomes.{one_store}
+-- Only one outcome fits each public contract.
+pub use Rattle.places.proofs.Outcomes.{one_store, one_refused, one_settle, one_verdict_number}
+use Rattle.std.specs.Prelude.{Ok}
 use Prim.Native.Nat.{ℕ, ◌+◌, ◌-◌, ◌≤◌}
 use mathlib.Core.Path.{◌≡◌, sym, ap, subst⁻¹, ◌∙◌}
 use mathlib.Core.Bool.{Bool}
@@ -12,9 +13,9 @@ use lib.Seq.{take_all}
 use borrow.Author.Tests.{le-leb}
 use Rattle.message.specs.Layout.{check_length}
 use Rattle.message.specs.Value.{header_of}
+use Rattle.message.specs.Answers.{with_head}
 use Rattle.message.specs.declared.value.Message.{Message}
 use Rattle.message.specs.declared.answers.Head.{Head}
-use Rattle.message.specs.declared.answers.Reading.TheVariants.{Taken}
 use Rattle.reader.specs.Reading.{read_of}
 use Rattle.parts.specs.Parts.{part_of, payload_of, check_of}
 use Rattle.reader.proofs.Clear.{fits, head_taken}
@@ -24,7 +25,7 @@ use Rattle.places.specs.Fields.{fields_with, fields_of}
 pub with_header : (m : Message) (h : Head) (header len verdict reply : ℕ) → header ≡ header_of m → fields_with header m h len verdict reply ≡ fields_of m h len verdict reply
 with_header m h header len verdict reply e = ap (λ (n : ℕ). fields_with n m h len verdict reply) e
 
-module _ (bytes : List ℕ) (m : Message) (h : Head) (taken : read_of bytes ≡ Taken m h) (verdict reply : ℕ) where
+module _ (bytes : List ℕ) (m : Message) (h : Head) (taken : read_of bytes ≡ Ok (with_head m h)) (verdict reply : ℕ) where
   abbrev fields : List ℕ
   fields = fields_of m h (length bytes) verdict reply
 

@@ -1,2 +1,3 @@
 -- What the contracts of `places` cite.
 pub mod Fields
+pub mod Answers

@@ -1,10 +1,13 @@
 // Every size, place and bit of the boundary to callers in other languages, by name, and the fields of a
-// message in their places. A place is an index into a lent array.
+// message in their places. A place is an index into a lent array: C has no other form for them, and each is a number of
+// its header file.
 #![tactic(auto)]
 
+mod answers;
 mod fields;
 
-pub use fields::store;
+pub use answers::{refused, settle, verdict_number};
+pub use fields::Fields;
 
 // How many rows the table has.
 pub const ROWS: usize = 32;
@@ -162,7 +165,7 @@ pub const ACKNOWLEDGES: u64 = 2;
 // Flag R: an acknowledgement is wanted.
 pub const WANTS: u64 = 4;
 
-// Verdict: none was asked for.
+// Verdict, as C gets it, by number: none was asked for.
 pub const NONE: u64 = 0;
 
 // Verdict: new, as far as its row can tell.
@@ -171,5 +174,5 @@ pub const NEW: u64 = 1;
 // Verdict: heard before, or too far behind to tell.
 pub const DUPLICATE: u64 = 2;
 
-// The answer of a call that refuses nothing.
+// The answer of a call that refuses nothing. A number and no `Result`: it is what C gets.
 pub const NO_REFUSAL: u32 = 0;

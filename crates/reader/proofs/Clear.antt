@@ -1,23 +1,25 @@
 -- What bytes that are taken have: each condition of a refusal is false. Assumes nothing.
+use Rattle.std.specs.Prelude.{Option, None, Ok}
 use Prim.Native.Nat.{ℕ, ◌+◌, ◌≤◌}
 use mathlib.Core.Path.{◌≡◌, refl, sym, ap, subst, ◌∙◌}
 use mathlib.Core.Bool.{Bool, true, false, ◌&&◌, cond}
 use mathlib.Core.List.{List, [], ◌∷◌, ◌++◌}
 use native.Mathlib.Omega.{arith}
 use borrow.Author.Tests.{ltb-false, eqb-true, not-false}
-use lib.Dec.{eqb, ltb}
+use lib.Dec.{ltb}
 use lib.ListN.{length, get_or}
-use Rattle.message.specs.Order.{Condition, condition, first_refusal, NoneOf}
+use Rattle.message.specs.Order.{Condition, condition, first_refusal, reason_of, NoneOf}
 use Rattle.message.specs.Layout.{only, body_of, check_length, head_length, up_to_check}
 use Rattle.message.specs.Value.{exchange_header, message_of}
 use Rattle.message.specs.Refusals.{bad_exchange, old_asks, bad_packet, bad_packet_length, no_room}
-use Rattle.message.specs.Answers.{head_of, as_taken, reading}
+use Rattle.message.specs.Answers.{head_of, with_head, reading}
 use Rattle.reader.specs.Reading.{exchange_order, tunnel_order, body_order, reading_order, read_of}
 use Rattle.message.specs.declared.value.Message.{Message}
 use Rattle.message.specs.declared.answers.Head.{Head}
+use Rattle.message.specs.declared.answers.Taken.{Taken}
 use Rattle.message.specs.declared.answers.Refusal.{Refusal}
-use Rattle.message.specs.declared.answers.Reading.TheVariants.{Taken, Refused}
-use Rattle.message.proofs.Order.{there_is_none, numbered, none_first}
+use Rattle.message.proofs.Order.{none_first}
+use Rattle.message.proofs.Writings.{unless_ok}
 use Rattle.outer.specs.Outer.{outer_order}
 use Rattle.outer.proofs.Clear.{ClearOuter, outer_clear}
 
@@ -64,38 +66,24 @@ all_clear bytes h =
       tunnel = λ (t : m.tunnelled ≡ true). tunnel_clear bytes m (subst (λ (k : Bool). NoneOf (cond k (tunnel_order bytes m) (exchange_order (exchange_header bytes) (length bytes) m))) t b);
     }
 
-reading_numbered : (bytes : List ℕ) (m : Message) (t : Bool)
-    → numbered (outer_order bytes m ++ cond t (tunnel_order bytes m) (exchange_order (exchange_header bytes) (length bytes) m)) ≡ true
-unfolding outer_order tunnel_order exchange_order
-reading_numbered bytes m true = refl
-reading_numbered bytes m false = refl
-
 -- an order of which no condition holds takes the value
-pub none_taken : (r : Refusal) (m : Message) → r.number ≡ 0 → reading r m ≡ as_taken m
-none_taken r m e = there_is_none r (as_taken m) (Refused r) e
-
-taken_of : (r : Refusal) (v m : Message) (h : Head) → reading r v ≡ Taken m h → (r.number ≡ 0) × (v ≡ m) × (head_of v ≡ h)
-taken_of r v m h e = let p = go (eqb r.number 0) e in (eqb-true _ _ p.0, p.1, p.2)
-  where
-    go : (b : Bool) → cond b (as_taken v) (Refused r) ≡ Taken m h → (b ≡ true) × (v ≡ m) × (head_of v ≡ h)
-    go true e = (refl, cc, cc)
-    go false e = let z : ◌≡◌ {A = ℕ} 0 1 = cc in let w : ⊥ = omega arith in absurd w
+taken_of : (r : Option Refusal) (v m : Message) (h : Head) → reading r v ≡ Ok (with_head m h) → (r ≡ None) × (v ≡ m) × (head_of v ≡ h)
+taken_of r v m h e = let p = unless_ok r (with_head v (head_of v)) (with_head m h) e in (p.0, ap (λ (q : Taken). q.message) p.1, ap (λ (q : Taken). q.head) p.1)
 
 -- a message that was taken is legal
-pub taken_legal : (bytes : List ℕ) (m : Message) {h : Head} → read_of bytes ≡ Taken m h → NoneOf (reading_order bytes)
+pub taken_legal : (bytes : List ℕ) (m : Message) {h : Head} → read_of bytes ≡ Ok (with_head m h) → NoneOf (reading_order bytes)
 unfolding read_of reading_order body_order
-taken_legal bytes m e =
-    none_first (reading_order bytes) (reading_numbered bytes (message_of bytes) (message_of bytes).tunnelled) (taken_of _ _ m _ e).0
+taken_legal bytes m e = none_first (reading_order bytes) (ap reason_of (taken_of _ _ m _ e).0)
 
 -- what was taken is the value of the bytes, and nothing refuses it
-pub taken : (bytes : List ℕ) (m : Message) {h : Head} → read_of bytes ≡ Taken m h → (message_of bytes ≡ m) × Clear bytes m
+pub taken : (bytes : List ℕ) (m : Message) {h : Head} → read_of bytes ≡ Ok (with_head m h) → (message_of bytes ≡ m) × Clear bytes m
 unfolding read_of
 taken bytes m e =
     let v = (taken_of (first_refusal (reading_order bytes)) (message_of bytes) m _ e).1 in
     (v, rw v at (all_clear bytes (taken_legal bytes m e)))
 
 -- and the head that was given is the value's
-pub head_taken : (bytes : List ℕ) (m : Message) (h : Head) → read_of bytes ≡ Taken m h → h ≡ head_of m
+pub head_taken : (bytes : List ℕ) (m : Message) (h : Head) → read_of bytes ≡ Ok (with_head m h) → h ≡ head_of m
 unfolding read_of
 head_taken bytes m h e =
     let p = taken_of (first_refusal (reading_order bytes)) (message_of bytes) m h e in
@@ -109,7 +97,7 @@ fits_by false true body check n h f = let g : body + 8 + check + 4 ≤ n = ltb-f
 fits_by false false body check n h f = omega arith
 
 -- the parts of bytes that were taken are within them
-pub fits : (bytes : List ℕ) (m : Message) {h : Head} → read_of bytes ≡ Taken m h → head_length m + check_length m ≤ length bytes
+pub fits : (bytes : List ℕ) (m : Message) {h : Head} → read_of bytes ≡ Ok (with_head m h) → head_length m + check_length m ≤ length bytes
 fits bytes m e =
     let k = (taken bytes m e).1 in
     fits_by m.tunnelled m.acknowledges _ _ _ k.outer.fixed (λ t. (k.general t).room)

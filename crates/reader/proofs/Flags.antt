@@ -1,4 +1,5 @@
 -- The head of a message that is taken, and the answer that goes with it: the flags of a general one are the three lowest bits of its exchange header, and those of a tunnelled one 0. Assumes nothing.
+use Rattle.std.specs.Prelude.{Ok}
 use Prim.Native.Nat.{ℕ, zero, suc, ◌+◌, ◌*◌, ◌/◌, ◌%◌, ◌<◌}
 use mathlib.Core.Path.{◌≡◌, refl, sym, ap, ap₂, ◌∙◌}
 use mathlib.Core.Bool.{Bool, true, false, cond}
@@ -8,12 +9,10 @@ use lib.Dec.{eqb}
 use Rattle.wire.specs.Bytes.{part, little}
 use Rattle.message.specs.Layout.{only, body_of}
 use Rattle.message.specs.Value.{bit, exchanged_by, flags_of}
-use Rattle.message.specs.Answers.{head_of, as_taken}
+use Rattle.message.specs.Answers.{head_of, with_head, as_taken}
 use Rattle.message.specs.declared.value.Message.{Message}
 use Rattle.message.specs.declared.answers.Head.{Head}
-use Rattle.message.specs.declared.answers.Reading.TheVariants.{Taken}
 use Rattle.reader.specs.Steps.{exchanged, exchange_at, no_exchange, with_fields, finished}
-use Rattle.reader.specs.declared.reading.Rest.TheVariants.{Fields}
 
 weighed : (y n : ℕ) → y < 2 → only (eqb y 1) n ≡ y * n
 weighed zero n l = omega arith
@@ -49,10 +48,10 @@ tunnel_head m n t f e =
 
 -- the answers that the exchange fields give, of a general message and of a tunnelled one
 pub general_taken : (m : Message) (bytes : List ℕ) (at n : ℕ) → m.tunnelled ≡ false → n ≡ body_of m + 8 + only (bit (little (part bytes at 1)) 1) 4
-    → finished m (Fields (exchange_at bytes at n)) ≡ as_taken (exchanged m bytes at)
+    → finished m (Ok (exchange_at bytes at n)) ≡ as_taken (exchanged m bytes at)
 unfolding with_fields exchanged_by
-general_taken m bytes at n t l = ap (Taken (exchanged m bytes at)) (sym (general_head m bytes at _ n refl t l))
+general_taken m bytes at n t l = ap (λ (h : Head). Ok (with_head (exchanged m bytes at) h)) (sym (general_head m bytes at _ n refl t l))
 
-pub tunnel_taken : (m : Message) (n : ℕ) → m.tunnelled ≡ true → with_fields m (no_exchange 0) ≡ m → n ≡ body_of m → finished m (Fields (no_exchange (n + 1))) ≡ as_taken m
+pub tunnel_taken : (m : Message) (n : ℕ) → m.tunnelled ≡ true → with_fields m (no_exchange 0) ≡ m → n ≡ body_of m → finished m (Ok (no_exchange (n + 1))) ≡ as_taken m
 unfolding with_fields
-tunnel_taken m n t z e = ap₂ Taken z (sym (tunnel_head m n t (sym (ap flags_of z)) e))
+tunnel_taken m n t z e = ap₂ (λ (v : Message) (h : Head). Ok (with_head v h)) z (sym (tunnel_head m n t (sym (ap flags_of z)) e))

@@ -1,4 +1,5 @@
 -- Reading after outer reading: what its answer is, and which bytes are there. Assumes nothing.
+use Rattle.std.specs.Prelude.{Option, Ok, Err}
 use Prim.Native.Nat.{ℕ, ◌+◌, ◌≤◌}
 use mathlib.Core.Path.{◌≡◌, refl, sym, ap, ap₂, subst, ◌∙◌}
 use mathlib.Core.Bool.{Bool, true, false, not, ◌||◌, cond}
@@ -12,33 +13,25 @@ use Rattle.message.specs.Order.{first_refusal}
 use Rattle.message.specs.Layout.{only, check_bytes, body_of, check_length}
 use Rattle.message.specs.Value.{bit, header, body_by, exchange_header, address_of, exchanged_by, message_of}
 use Rattle.message.specs.Refusals.{bad_encrypt}
-use Rattle.message.specs.Answers.{as_taken, reading}
+use Rattle.message.specs.Answers.{reading}
 use Rattle.message.specs.declared.value.Message.{Message}
 use Rattle.message.specs.declared.answers.Refusal.{Refusal}
-use Rattle.message.specs.declared.answers.Reading.TheVariants as Reading
-use Rattle.message.proofs.Order.{there_is, number_of, none_first, first_pass, first_hit}
+use Rattle.message.proofs.Order.{none_first, first_pass, first_hit}
 use Rattle.outer.specs.Outer.{outer_order}
 use Rattle.outer.specs.Steps.{fixed_at, begun_of}
-use Rattle.outer.specs.declared.outer.Begun.TheVariants.{Address, Refused}
-use Rattle.outer.proofs.Beginning.{refused_first, outer_numbered, outer_fixed}
+use Rattle.outer.proofs.Beginning.{refused_first, outer_fixed}
 use Rattle.outer.proofs.Clear.{outer_clear}
 use Rattle.outer.proofs.Answers.{outer_none, outer_given, outer_body}
 use Rattle.reader.specs.Reading.{exchange_order, tunnel_order, body_order, reading_order, read_of}
 use Rattle.reader.specs.Steps.{exchanged, no_exchange, with_fields, exchange_of, tunnel_of}
 use Rattle.reader.proofs.Steps.{address_tunnelled, address_exchanged}
 
-pub reading_hit : (r : Refusal) (m : Message) → (r.number ≡ 0 → ⊥) → reading r m ≡ Reading.Refused r
-reading_hit r m h = there_is r (as_taken m) (Reading.Refused r) h
-
 -- ---- outer reading refused
 
-pub read_refused : (bytes : List ℕ) (r : Refusal) → begun_of bytes ≡ Refused r → read_of bytes ≡ Reading.Refused r
+pub read_refused : (bytes : List ℕ) (r : Refusal) → begun_of bytes ≡ Err r → read_of bytes ≡ Err r
 unfolding read_of reading_order
 read_refused bytes r e =
-    let p = refused_first bytes r e in
-    ap (λ (q : Refusal). reading q (message_of bytes))
-    (first_hit (outer_order bytes (message_of bytes)) (body_order bytes (message_of bytes)) (λ z. p.1 (sym (ap number_of p.0) ∙ z)) ∙ p.0)
-    ∙ reading_hit r (message_of bytes) p.1
+    ap (λ (q : Option Refusal). reading q (message_of bytes)) (first_hit (outer_order bytes (message_of bytes)) (body_order bytes (message_of bytes)) r (refused_first bytes r e))
 
 -- ---- outer reading gave the value up to the key id
 
@@ -50,7 +43,7 @@ not_plain type n e = go (eqb type 0) refl
     go true z = ap (λ (t : ℕ). only (eqb t 1) n) (eqb-true type 0 z)
     go false z = ap (λ (b : Bool). only b n) (subst (λ (b : Bool). (b || eqb type 1) ≡ true) z (not-false _ e))
 
-module _ (bytes : List ℕ) (m : Message) (e : begun_of bytes ≡ Address m) where
+module _ (bytes : List ℕ) (m : Message) (e : begun_of bytes ≡ Ok m) where
   given : address_of bytes (header bytes) ≡ m
   given = outer_given bytes m e
 
@@ -74,7 +67,7 @@ module _ (bytes : List ℕ) (m : Message) (e : begun_of bytes ≡ Address m) whe
   pub check_unless_plain : check_length m ≡ only (not (eqb m.encrypt 0)) check_bytes
   unfolding message_of exchanged_by address_of
   check_unless_plain =
-      let clear = outer_clear bytes (message_of bytes) (none_first (outer_order bytes (message_of bytes)) (outer_numbered bytes (message_of bytes)) (outer_none bytes m e)) in
+      let clear = outer_clear bytes (message_of bytes) (none_first (outer_order bytes (message_of bytes)) (outer_none bytes m e)) in
       subst (λ (v : Message). check_length v ≡ only (not (eqb v.encrypt 0)) check_bytes) given (not_plain (address_of bytes (header bytes)).encrypt check_bytes clear.encrypt)
 
   room : (tunnelled : Bool) → m.tunnelled ≡ tunnelled → body_of m + cond tunnelled 2 8 + check_length m ≤ length bytes
@@ -94,8 +87,7 @@ module _ (bytes : List ℕ) (m : Message) (e : begun_of bytes ≡ Address m) whe
   to_body : read_of bytes ≡ reading (first_refusal (body_order bytes (message_of bytes))) (message_of bytes)
   unfolding read_of reading_order
   to_body =
-      ap (λ (r : Refusal). reading r (message_of bytes))
-      (first_pass (outer_order bytes (message_of bytes)) (body_order bytes (message_of bytes)) (outer_numbered bytes (message_of bytes)) (outer_none bytes m e))
+      ap (λ (r : Option Refusal). reading r (message_of bytes)) (first_pass (outer_order bytes (message_of bytes)) (body_order bytes (message_of bytes)) (outer_none bytes m e))
 
   by_tunnel : m.tunnelled ≡ true → reading (first_refusal (body_order bytes m)) m ≡ reading (first_refusal (tunnel_order bytes m)) m
   unfolding body_order

@@ -1,30 +1,31 @@
 -- The steps in which the code reads. `proofs/Steps.antt` ties them to the order of reading and to the value. Assumes nothing.
-use Rattle.std.specs.Prelude.{ℕ, ◌+◌, ◌%◌, true, List, [], ◌∷◌, length}
+use Rattle.std.specs.Prelude.{ℕ, ◌+◌, ◌%◌, true, List, [], ◌∷◌, length, Result, Ok, Err}
 use Rattle.wire.specs.Bytes.{part, little}
 use Rattle.message.specs.Order.{◌when◌, ◌at_byte◌, first_refusal}
 use Rattle.message.specs.Layout.{only, body_of}
 use Rattle.message.specs.Value.{bit, exchanged_by}
 use Rattle.message.specs.Refusals.{no_room}
-use Rattle.message.specs.Answers.{reading}
+use Rattle.message.specs.Answers.{with_head, reading}
 use Rattle.reader.specs.Reading.{exchange_order, tunnel_order}
 use Rattle.message.specs.declared.value.Message.{Message}
-use Rattle.message.specs.declared.answers.Reading.{Reading}
+use Rattle.message.specs.declared.answers.Taken.{Taken}
+use Rattle.message.specs.declared.answers.Refusal.{Refusal}
+use Rattle.message.specs.declared.answers.Reason.TheVariants.{TooShort}
 use Rattle.reader.specs.declared.reading.Exchange.{Exchange}
-use Rattle.reader.specs.declared.reading.Rest.{Rest}
 
 -- a value with the exchange fields that stand at a place
 abbrev pub exchanged : Message → List ℕ → ℕ → Message
 exchanged m bytes at = exchanged_by true m bytes at (little (part bytes at 1))
 
 -- the answers for the two kinds of message that outer reading took, from its value
-unfoldable pub tunnel_of : List ℕ → Message → Reading
+unfoldable pub tunnel_of : List ℕ → Message → Result Taken Refusal
 tunnel_of bytes m = reading (first_refusal (tunnel_order bytes m)) m
 
 -- of a general one whose exchange header is good, what is left to decide is A's room
-unfoldable pub fields_of : List ℕ → Message → Reading
-fields_of bytes m = reading (first_refusal (2 when no_room (length bytes) (exchanged m bytes (body_of m)) at_byte length bytes ∷ [])) (exchanged m bytes (body_of m))
+unfoldable pub fields_of : List ℕ → Message → Result Taken Refusal
+fields_of bytes m = reading (first_refusal (TooShort when no_room (length bytes) (exchanged m bytes (body_of m)) at_byte length bytes ∷ [])) (exchanged m bytes (body_of m))
 
-unfoldable pub exchange_of : List ℕ → Message → Reading
+unfoldable pub exchange_of : List ℕ → Message → Result Taken Refusal
 exchange_of bytes m =
     reading (first_refusal (exchange_order (little (part bytes (body_of m) 1)) (length bytes) (exchanged m bytes (body_of m)))) (exchanged m bytes (body_of m))
 
@@ -67,6 +68,6 @@ with_fields m e =
     }
 
 -- the answer: that value with its head, or the refusal
-abbrev pub finished : Message → Rest → Reading
-finished m (Rest.Fields e) = Reading.Taken (with_fields m e) (record { flags = e.header % 8; length = e.length })
-finished m (Rest.Refused r) = Reading.Refused r
+abbrev pub finished : Message → Result Exchange Refusal → Result Taken Refusal
+finished m (Ok e) = Ok (with_head (with_fields m e) (record { flags = e.header % 8; length = e.length }))
+finished m (Err r) = Err r

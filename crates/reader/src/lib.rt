@@ -1,7 +1,6 @@
 // Reading a message: after outer reading, what a general or a tunnelled one holds.
 #![tactic(auto)]
 
-mod fields;
 mod reading;
 
 pub use reading::read;

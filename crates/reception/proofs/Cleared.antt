@@ -1,22 +1,21 @@
 -- Where receiving refuses nothing, none of its conditions holds: the name is a good one, there is a row to be had, and room for an
 -- acknowledgement. Assumes nothing.
+use Rattle.std.specs.Prelude.{None, Result, Ok, Err}
 use Prim.Native.Nat.{ℕ, ◌≤◌}
 use mathlib.Core.Path.{◌≡◌, refl, sym, ap, ◌∙◌}
-use mathlib.Core.Bool.{Bool, true, false, not, ◌&&◌, cond}
-use mathlib.Core.List.{List, [], ◌∷◌, ◌++◌}
+use mathlib.Core.Bool.{Bool, true, false, not, ◌&&◌}
+use mathlib.Core.List.{List, [], ◌++◌}
 use native.Mathlib.Omega.{arith}
 use lib.Dec.{eqb}
-use lib.ListN.{length}
-use Rattle.message.specs.Order.{◌when◌, first, NoneOf}
+use Rattle.message.specs.Reasons.{number}
+use Rattle.message.specs.Order.{first, NoneOf}
 use Rattle.message.specs.Layout.{only}
-use Rattle.message.specs.Value.{exchange_header, message_of}
+use Rattle.message.specs.Value.{message_of}
 use Rattle.message.specs.Refusals.{bad_key, nobody, total}
-use Rattle.message.specs.declared.answers.Writing.{Writing}
-use Rattle.message.specs.declared.answers.Writing.TheVariants.{Written, Refused}
+use Rattle.message.specs.declared.answers.Refusal.{Refusal}
 use Rattle.message.proofs.Logic.{clash}
-use Rattle.message.proofs.Order.{numbered, none_first}
-use Rattle.outer.specs.Outer.{outer_order}
-use Rattle.reader.specs.Reading.{exchange_order, tunnel_order, body_order, reading_order}
+use Rattle.message.proofs.Order.{none_first}
+use Rattle.reader.specs.Reading.{reading_order}
 use Rattle.reader.proofs.Clear.{Clear, none_left, none_right, all_clear}
 use Rattle.judge.proofs.Clear.{written}
 use Rattle.reply.specs.Acknowledgement.{blank_check, acknowledging}
@@ -26,23 +25,11 @@ use Rattle.reception.specs.Receiving.{Beside, sender_of, answer_to, delivery_ord
 use Rattle.reception.proofs.Orders.{link_is_sender}
 
 module _ (b : Beside) (bytes : List ℕ) (full : Bool) where
-  order_numbered : numbered (receiving_order b bytes full) ≡ true
-  unfolding receiving_order reading_order outer_order body_order tunnel_order exchange_order after_reading delivery_order admission_order
-  order_numbered = go (message_of bytes).tunnelled
-    where
-      go : (tunnelled : Bool)
-          → numbered (15 when nobody b.own
-          ∷ (outer_order bytes (message_of bytes) ++ cond tunnelled (tunnel_order bytes (message_of bytes)) (exchange_order (exchange_header bytes) (length bytes) (message_of bytes)))
-          ++ after_reading b (message_of bytes) full)
-          ≡ true
-      go true = refl
-      go false = refl
-
-  module _ (clear : first (receiving_order b bytes full) ≡ 0) where
+  module _ (clear : first (receiving_order b bytes full) ≡ None) where
     -- none of the conditions holds, so none of reading's
     all : NoneOf (reading_order bytes ++ after_reading b (message_of bytes) full)
     unfolding receiving_order
-    all = (none_first (receiving_order b bytes full) order_numbered clear).1
+    all = (none_first (receiving_order b bytes full) clear).1
 
     read : Clear bytes (message_of bytes)
     read = all_clear bytes (none_left (reading_order bytes) (after_reading b (message_of bytes) full) all)
@@ -75,14 +62,14 @@ module _ (b : Beside) (bytes : List ℕ) (full : Bool) where
     has_row = last.1.1.0
 
     -- an acknowledgement that is wanted is written
-    pub is_acknowledged : (message_of bytes).wants ≡ true → acknowledging (answer_to b (message_of bytes)) b.room ≡ Written (total (answer_to b (message_of bytes)) [])
+    pub is_acknowledged : (message_of bytes).wants ≡ true → acknowledging (answer_to b (message_of bytes)) b.room ≡ Ok (total (answer_to b (message_of bytes)) [])
     unfolding admission_order acknowledging
     is_acknowledged w = go (acknowledging (answer_to b (message_of bytes)) b.room) refl (message_of bytes).wants w last.0 last.1.0
       where
-        go : (a : Writing) → acknowledging (answer_to b (message_of bytes)) b.room ≡ a → (wants : Bool) → wants ≡ true → (wants && unwritable a) ≡ false → (wants && lacks_room a) ≡ false
-            → a ≡ Written (total (answer_to b (message_of bytes)) [])
-        go (Written n) e true w p q = sym (ap Written (written (answer_to b (message_of bytes)) [] (blank_check (answer_to b (message_of bytes))) b.room n e).0)
-        go (Refused r) e true w p q = clash (not (eqb r.number 19)) (ap not q) p
+        go : (a : Result ℕ Refusal) → acknowledging (answer_to b (message_of bytes)) b.room ≡ a → (wants : Bool) → wants ≡ true → (wants && unwritable a) ≡ false → (wants && lacks_room a) ≡ false
+            → a ≡ Ok (total (answer_to b (message_of bytes)) [])
+        go (Ok n) e true w p q = sym (ap Ok (written (answer_to b (message_of bytes)) [] (blank_check (answer_to b (message_of bytes))) b.room n e).0)
+        go (Err r) e true w p q = clash (not (eqb (number r.reason) 19)) (ap not q) p
         go a e false w p q = clash false w refl
 
     -- so there is room for it
@@ -90,7 +77,7 @@ module _ (b : Beside) (bytes : List ℕ) (full : Bool) where
     unfolding acknowledging
     acknowledgement_fits = go (message_of bytes).wants is_acknowledged
       where
-        go : (wants : Bool) → (wants ≡ true → acknowledging (answer_to b (message_of bytes)) b.room ≡ Written (total (answer_to b (message_of bytes)) []))
+        go : (wants : Bool) → (wants ≡ true → acknowledging (answer_to b (message_of bytes)) b.room ≡ Ok (total (answer_to b (message_of bytes)) []))
             → only wants (total (answer_to b (message_of bytes)) []) ≤ b.room
         go true e = (written (answer_to b (message_of bytes)) [] (blank_check (answer_to b (message_of bytes))) b.room (total (answer_to b (message_of bytes)) []) (e refl)).1.room
         go false e = omega arith

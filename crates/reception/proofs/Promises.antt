@@ -14,49 +14,41 @@ pub use Rattle.reception.proofs.Replies.{acknowledgement_length, acknowledgement
 pub use Rattle.reception.proofs.Replies.{changes_the_front_only, gives_value_and_length, keeps_the_buffer_length, what_is_written_reads_back}
 -- A verdict is given only to a message that reading takes.
 pub use Rattle.reception.proofs.WasRead.{new_was_read, duplicate_was_read}
-use Prim.Native.Nat.{ℕ, ◌+◌, ◌*◌, ◌<◌}
+use Rattle.std.specs.Prelude.{Option, Some, Result, Ok, Err}
+use Prim.Native.Nat.{ℕ, ◌+◌, ◌*◌}
 use mathlib.Core.Path.{◌≡◌, refl, sym, ap, ◌∙◌}
-use mathlib.Core.Bool.{Bool, true, false, cond}
+use mathlib.Core.Bool.{Bool, true, false}
 use mathlib.Core.Logic.{◌⊎◌, inl, inr}
-use mathlib.Core.List.{List, []}
-use native.Mathlib.Omega.{arith}
-use borrow.Author.Tests.{eqb-false}
-use lib.Dec.{eqb}
+use mathlib.Core.List.{List}
 use lib.ListN.{get_or}
-use Rattle.message.specs.Order.{first_refusal}
+use Rattle.message.specs.Reasons.{number}
+use Rattle.message.specs.Order.{first_refusal, reason_of}
 use Rattle.message.specs.Value.{message_of}
-use Rattle.message.specs.Layout.{only}
-use Rattle.message.specs.Refusals.{nobody, total}
+use Rattle.message.specs.Refusals.{nobody}
 use Rattle.message.specs.Answers.{head_of}
 use Rattle.message.specs.declared.value.Message.{Message}
 use Rattle.message.specs.declared.answers.Head.{Head}
+use Rattle.message.specs.declared.answers.Taken.{Taken}
 use Rattle.message.specs.declared.answers.Refusal.{Refusal}
-use Rattle.message.specs.declared.answers.Reading.{Reading}
-use Rattle.message.proofs.Order.{number_of, FirstToHold, at_zero, first_at_zero, first_holds, holds_first}
+use Rattle.message.proofs.Order.{FirstToHold, at_zero, first_at_zero, first_holds, holds_first}
+use Rattle.message.proofs.Writings.{unless_err, for_at_no_byte}
 use Rattle.reader.specs.Reading.{read_of}
 use Rattle.window.specs.declared.Verdict.{Verdict}
 use Rattle.table.specs.Table.{row_of}
 use Rattle.table.proofs.Words.{other_row, other_word}
-use Rattle.admission.specs.Admission.{row_for, no_row, admission_order, verdict_in, with_verdict, answer_of, table_by}
+use Rattle.admission.specs.Admission.{row_for, rolled_in, no_row, admission_order, verdict_in, as_duplicate, answer_of, put_if_new, table_by}
 use Rattle.admission.specs.declared.answers.Received.{Received}
-use Rattle.admission.proofs.Orders.{refuses, keeps_table, keeps_buffer}
+use Rattle.admission.proofs.Orders.{keeps_table, keeps_buffer}
 use Rattle.reception.specs.Receiving.{Beside, sender_of, delivery_order, answer_to, after_reading, receiving_order, receive_of, receive_table, receive_buffer}
 use Rattle.reception.proofs.Orders.{own_refused, not_read, is_read, full_for_lem}
 use Rattle.reception.proofs.Unwritable.{never_22}
 
 -- ---- a refusal, its number and its byte
 
--- an answer made of a refusal is that refusal, and its number is not 0
-refused_of : (r q : Refusal) (verdict : Verdict) (value m : Message) (h : Head) → answer_of r verdict value m h ≡ Received.Refused q → (r ≡ q) × (q.number ≡ 0 → ⊥)
+-- an answer made of a refusal is that refusal
+refused_of : (r : Option Refusal) (q : Refusal) (verdict : Verdict) (value m : Message) (h : Head) → answer_of r verdict value m h ≡ Err q → r ≡ Some q
 unfolding answer_of
-refused_of r q verdict value m h e =
-    let p = go (eqb r.number 0) verdict e in
-    (p.0, λ z. eqb-false _ _ p.1 (ap number_of p.0 ∙ z))
-  where
-    go : (none : Bool) (v : Verdict) → cond none (with_verdict v m h (only m.wants (total value []))) (Received.Refused r) ≡ Received.Refused q → (r ≡ q) × (none ≡ false)
-    go true Verdict.New e = let z : ◌≡◌ {A = ℕ} 0 1 = cc in let w : ⊥ = omega arith in absurd w
-    go true Verdict.Duplicate e = let z : ◌≡◌ {A = ℕ} 0 1 = cc in let w : ⊥ = omega arith in absurd w
-    go false v e = (cc, refl)
+refused_of r q verdict value m h e = unless_err _ _ q e
 
 -- what follows reading points at no byte
 after_at_zero : (b : Beside) (m : Message) (full : Bool) → at_zero (after_reading b m full) ≡ true
@@ -64,15 +56,15 @@ unfolding after_reading delivery_order admission_order
 after_at_zero b m full = refl
 
 after_reading_at_no_byte : (b : Beside) (m : Message) (h : Head) (full : Bool) (verdict : Verdict) (r : Refusal)
-    → answer_of (first_refusal (after_reading b m full)) verdict (answer_to b m) m h ≡ Received.Refused r → r.offset ≡ 0
+    → answer_of (first_refusal (after_reading b m full)) verdict (answer_to b m) m h ≡ Err r → r.offset ≡ 0
 after_reading_at_no_byte b m h full verdict r e =
-    ap (λ (q : Refusal). q.offset) (sym (refused_of _ r verdict (answer_to b m) m h e).0 ∙ first_at_zero (after_reading b m full) (after_at_zero b m full))
+    for_at_no_byte _ r (sym (first_at_zero (after_reading b m full) (after_at_zero b m full)) ∙ refused_of _ r verdict (answer_to b m) m h e)
 
 -- ---- what a call leaves as it was
 
 module _ (b : Beside) (bytes t : List ℕ) where
   -- A refused call leaves table and buffer as they were, all of them.
-  pub refused_changes_nothing : (r : Refusal) (old : List ℕ) → receive_of b bytes t ≡ Received.Refused r → (receive_table b bytes t ≡ t) × (receive_buffer b bytes t old ≡ old)
+  pub refused_changes_nothing : (r : Refusal) (old : List ℕ) → receive_of b bytes t ≡ Err r → (receive_table b bytes t ≡ t) × (receive_buffer b bytes t old ≡ old)
   unfolding receive_table receive_buffer
   refused_changes_nothing r old e = (
     sym (keeps_table (receive_of b bytes t) r (sender_of b.link (message_of bytes)) (message_of bytes) t e),
@@ -80,19 +72,22 @@ module _ (b : Beside) (bytes t : List ℕ) where
   )
 
   -- A duplicate changes no row, though it is acknowledged.
-  pub duplicate_changes_no_row : (m : Message) (h : Head) (n : ℕ) → receive_of b bytes t ≡ Received.Duplicate m h n → receive_table b bytes t ≡ t
+  pub duplicate_changes_no_row : (m : Message) (h : Head) (n : ℕ) → receive_of b bytes t ≡ as_duplicate m h n → receive_table b bytes t ≡ t
   unfolding receive_table table_by
-  duplicate_changes_no_row m h n e = ap (λ (a : Received). table_by a (sender_of b.link (message_of bytes)) (message_of bytes) t) e
+  duplicate_changes_no_row m h n e = ap (λ (a : Result Received Refusal). table_by a (sender_of b.link (message_of bytes)) (message_of bytes) t) e
 
   -- No call changes another row than that of its name.
   pub touches_one_row : (j : ℕ) → (j ≡ row_for t (sender_of b.link (message_of bytes)) (message_of bytes).key → ⊥) → row_of (receive_table b bytes t) j ≡ row_of t j
   unfolding receive_table table_by
   touches_one_row j n = go (receive_of b bytes t)
     where
-      go : (a : Received) → row_of (table_by a (sender_of b.link (message_of bytes)) (message_of bytes) t) j ≡ row_of t j
-      go (Received.New m h len) = other_row t _ j _ n
-      go (Received.Duplicate m h len) = refl
-      go (Received.Refused r) = refl
+      by : (v : Verdict) → row_of (put_if_new v t (row_for t (sender_of b.link (message_of bytes)) (message_of bytes).key) (rolled_in t (sender_of b.link (message_of bytes)) (message_of bytes).key (message_of bytes).id).row) j ≡ row_of t j
+      by Verdict.New = other_row t _ j _ n
+      by Verdict.Duplicate = refl
+
+      go : (a : Result Received Refusal) → row_of (table_by a (sender_of b.link (message_of bytes)) (message_of bytes) t) j ≡ row_of t j
+      go (Ok a) = by a.verdict
+      go (Err r) = refl
 
   -- Nor any other word than that row's three.
   pub touches_three_words : (k : ℕ)
@@ -101,49 +96,53 @@ module _ (b : Beside) (bytes t : List ℕ) where
   unfolding receive_table table_by
   touches_three_words k n₀ n₁ n₂ = go (receive_of b bytes t)
     where
-      go : (a : Received) → get_or (table_by a (sender_of b.link (message_of bytes)) (message_of bytes) t) k 0 ≡ get_or t k 0
-      go (Received.New m h len) = other_word t _ k _ n₀ n₁ n₂
-      go (Received.Duplicate m h len) = refl
-      go (Received.Refused r) = refl
+      by : (v : Verdict) → get_or (put_if_new v t (row_for t (sender_of b.link (message_of bytes)) (message_of bytes).key) (rolled_in t (sender_of b.link (message_of bytes)) (message_of bytes).key (message_of bytes).id).row) k 0 ≡ get_or t k 0
+      by Verdict.New = other_word t _ k _ n₀ n₁ n₂
+      by Verdict.Duplicate = refl
+
+      go : (a : Result Received Refusal) → get_or (table_by a (sender_of b.link (message_of bytes)) (message_of bytes) t) k 0 ≡ get_or t k 0
+      go (Ok a) = by a.verdict
+      go (Err r) = refl
 
   -- ---- each refusal exactly when its condition is the first in the order to hold
 
   -- A refusal is given only where its condition is the first to hold in the whole order, 15 and all of reading included.
-  pub receiving_refused_first : (r : Refusal) → receive_of b bytes t ≡ Received.Refused r
+  pub receiving_refused_first : (r : Refusal) → receive_of b bytes t ≡ Err r
       → FirstToHold r (receiving_order b bytes (no_row t (sender_of b.link (message_of bytes)) (message_of bytes).key))
   unfolding receive_of
-  receiving_refused_first r e = let p = refused_of _ r _ _ _ _ e in holds_first r _ p.1 p.0
+  receiving_refused_first r e = holds_first r _ (refused_of _ r _ _ _ _ e)
 
   -- And wherever it is.
-  pub receiving_first_refused : (r : Refusal) → 0 < r.number → FirstToHold r (receiving_order b bytes (no_row t (sender_of b.link (message_of bytes)) (message_of bytes).key))
-      → receive_of b bytes t ≡ Received.Refused r
-  unfolding receive_of
-  receiving_first_refused r l w =
-      sym (refuses r (first_refusal (receiving_order b bytes (no_row t (sender_of b.link (message_of bytes)) (message_of bytes).key))) (verdict_in t (sender_of b.link (message_of bytes)) (message_of bytes)) (answer_to b (message_of bytes)) (message_of bytes) (head_of (message_of bytes)) (λ z. omega arith) (first_holds r _ w))
+  pub receiving_first_refused : (r : Refusal) → FirstToHold r (receiving_order b bytes (no_row t (sender_of b.link (message_of bytes)) (message_of bytes).key))
+      → receive_of b bytes t ≡ Err r
+  unfolding receive_of answer_of
+  receiving_first_refused r w =
+      ap (λ (q : Option Refusal). answer_of q (verdict_in t (sender_of b.link (message_of bytes)) (message_of bytes)) (answer_to b (message_of bytes)) (message_of bytes) (head_of (message_of bytes)))
+      (first_holds r _ w)
 
   -- ---- the byte at fault
 
   -- Where the own node is somebody's (15 comes first), what reading refuses, receiving refuses with the same number and at the same byte.
-  pub passes_on_what_reading_refuses : (r : Refusal) → nobody b.own ≡ false → read_of bytes ≡ Reading.Refused r → receive_of b bytes t ≡ Received.Refused r
+  pub passes_on_what_reading_refuses : (r : Refusal) → nobody b.own ≡ false → read_of bytes ≡ Err r → receive_of b bytes t ≡ Err r
   passes_on_what_reading_refuses r own e = sym (not_read b bytes t own r e)
 
   -- A refusal that is not reading's points at no byte: its offset is 0.
-  pub others_point_at_no_byte : (r : Refusal) → receive_of b bytes t ≡ Received.Refused r → (read_of bytes ≡ Reading.Refused r) ⊎ (r.offset ≡ 0)
+  pub others_point_at_no_byte : (r : Refusal) → receive_of b bytes t ≡ Err r → (read_of bytes ≡ Err r) ⊎ (r.offset ≡ 0)
   others_point_at_no_byte r e = by_own (nobody b.own) refl
     where
-      same : {p q : Refusal} → Received.Refused p ≡ Received.Refused q → p ≡ q
+      same : {p q : Refusal} → ◌≡◌ {A = Result Received Refusal} (Err p) (Err q) → p ≡ q
       same f = cc
 
-      by_reading : nobody b.own ≡ false → (a : Reading) → read_of bytes ≡ a → (read_of bytes ≡ Reading.Refused r) ⊎ (r.offset ≡ 0)
-      by_reading own (Reading.Taken m h) f = inr (after_reading_at_no_byte b m h (full_for_lem b bytes t m) _ r (is_read b bytes t own m h f ∙ e))
-      by_reading own (Reading.Refused q) f = inl (f ∙ ap Reading.Refused (same (sym (passes_on_what_reading_refuses q own f) ∙ e)))
+      by_reading : nobody b.own ≡ false → (a : Result Taken Refusal) → read_of bytes ≡ a → (read_of bytes ≡ Err r) ⊎ (r.offset ≡ 0)
+      by_reading own (Ok k) f = inr (after_reading_at_no_byte b k.message k.head (full_for_lem b bytes t k.message) _ r (is_read b bytes t own k.message k.head f ∙ e))
+      by_reading own (Err q) f = inl (f ∙ ap Err (same (sym (passes_on_what_reading_refuses q own f) ∙ e)))
 
-      by_own : (x : Bool) → nobody b.own ≡ x → (read_of bytes ≡ Reading.Refused r) ⊎ (r.offset ≡ 0)
+      by_own : (x : Bool) → nobody b.own ≡ x → (read_of bytes ≡ Err r) ⊎ (r.offset ≡ 0)
       by_own true own = inr (ap (λ (q : Refusal). q.offset) (sym (same (own_refused b bytes t own ∙ e))))
       by_own false own = by_reading own (read_of bytes) refl
 
   -- 22 is never said: a message that gets so far has an acknowledgement that can be refused for want of room only.
-  pub unwritable_never : (r : Refusal) → receive_of b bytes t ≡ Received.Refused r → r.number ≡ 22 → ⊥
+  pub unwritable_never : (r : Refusal) → receive_of b bytes t ≡ Err r → number r.reason ≡ 22 → ⊥
   unwritable_never r e n =
-      never_22 b bytes (no_row t (sender_of b.link (message_of bytes)) (message_of bytes).key)
-      (ap number_of (first_holds r _ (receiving_refused_first r e)) ∙ n)
+      never_22 b bytes (no_row t (sender_of b.link (message_of bytes)) (message_of bytes).key) r.reason
+      (ap reason_of (first_holds r _ (receiving_refused_first r e))) n

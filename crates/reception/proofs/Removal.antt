@@ -1,4 +1,5 @@
 -- What a removal leaves: the row of the name free and zero, all others as they were, and that row used again. Assumes nothing.
+use Rattle.std.specs.Prelude.{Result, Ok, Err}
 use Prim.Native.Nat.{ℕ, ◌+◌, ◌*◌, ◌≤◌, ◌<◌}
 use mathlib.Core.Path.{◌≡◌, refl, sym, ap, ◌∙◌}
 use mathlib.Core.Bool.{Bool, true, false, not, cond}
@@ -9,8 +10,9 @@ use borrow.Author.Tests.{lt-ltb}
 use lib.Dec.{ltb}
 use lib.ListN.{length, get_or, set, length-set}
 use lib.Seq.{get_or-set_same, get_or-set_other}
-use Rattle.message.specs.Answers.{refusal}
+use Rattle.message.specs.Reasons.{refusal}
 use Rattle.message.specs.declared.answers.Refusal.{Refusal}
+use Rattle.message.specs.declared.answers.Reason.TheVariants.{NoRow}
 use Rattle.table.specs.Table.{rows, freed, row_of, with_row, named, is_free, find_of, free_of}
 use Rattle.table.proofs.Least.{least_is}
 use Rattle.table.proofs.Words.{fields}
@@ -18,29 +20,28 @@ use Rattle.table.proofs.Promises.{other_row, other_word, length_put}
 use Rattle.table.proofs.Found.{none_there_none_found}
 use Rattle.admission.specs.Admission.{row_for}
 use Rattle.admission.proofs.Places.{opens}
-use Rattle.reception.specs.declared.answers.Removed.TheVariants.{Done, Refused}
 use Rattle.reception.specs.Removing.{remove_of, remove_table}
 
 module _ (t : List ℕ) (node key : ℕ) where
   -- ---- what stays
 
   -- A refused removal changes nothing.
-  pub refused_removal_changes_nothing : (r : Refusal) → remove_of t node key ≡ Refused r → remove_table t node key ≡ t
+  pub refused_removal_changes_nothing : (r : Refusal) → remove_of t node key ≡ Err r → remove_table t node key ≡ t
   unfolding remove_of remove_table
   refused_removal_changes_nothing r e = go (ltb (find_of rows t node key) rows) e
     where
-      go : (b : Bool) → cond b Done (Refused (refusal 21)) ≡ Refused r → cond b (with_row t (find_of rows t node key) freed) t ≡ t
+      go : (b : Bool) → ◌≡◌ {A = Result (Unit {0}) Refusal} (cond b (Ok tt) (Err (refusal NoRow))) (Err r) → cond b (with_row t (find_of rows t node key) freed) t ≡ t
       go true e = let z : ◌≡◌ {A = ℕ} 0 1 = cc in let w : ⊥ = omega arith in absurd w
       go false e = refl
 
   -- A refusal of removing points at no byte.
-  pub removal_points_at_no_byte : (r : Refusal) → remove_of t node key ≡ Refused r → r.offset ≡ 0
+  pub removal_points_at_no_byte : (r : Refusal) → remove_of t node key ≡ Err r → r.offset ≡ 0
   unfolding remove_of
   removal_points_at_no_byte r e = go (ltb (find_of rows t node key) rows) e
     where
-      go : (b : Bool) → cond b Done (Refused (refusal 21)) ≡ Refused r → r.offset ≡ 0
+      go : (b : Bool) → ◌≡◌ {A = Result (Unit {0}) Refusal} (cond b (Ok tt) (Err (refusal NoRow))) (Err r) → r.offset ≡ 0
       go true e = let z : ◌≡◌ {A = ℕ} 0 1 = cc in let w : ⊥ = omega arith in absurd w
-      go false e = let s : refusal 21 ≡ r = cc in sym (ap (λ (q : Refusal). q.offset) s)
+      go false e = let s : refusal NoRow ≡ r = cc in sym (ap (λ (q : Refusal). q.offset) s)
 
   -- No removal changes another row than that of its name.
   pub removal_touches_one_row : (j : ℕ) → (j ≡ find_of rows t node key → ⊥) → row_of (remove_table t node key) j ≡ row_of t j

@@ -1,4 +1,5 @@
 -- What receiving writes: the acknowledgement at the front of the buffer, and nothing else. Assumes nothing.
+use Rattle.std.specs.Prelude.{Result, Ok, Err}
 use Prim.Native.Nat.{ℕ, ◌+◌, ◌^◌, ◌≤◌, ◌<◌}
 use mathlib.Core.Path.{◌≡◌, refl, sym, ap, subst, subst⁻¹, ◌∙◌}
 use mathlib.Core.Logic.{◌⊎◌, ⊎_elim}
@@ -12,17 +13,18 @@ use Rattle.wire.proofs.Digits.{AllBytes}
 use Rattle.message.specs.Layout.{only, encrypted}
 use Rattle.message.specs.Value.{message_of}
 use Rattle.message.specs.Refusals.{total}
+use Rattle.message.specs.Answers.{with_head}
 use Rattle.message.specs.declared.value.Message.{Message}
 use Rattle.message.specs.declared.answers.Head.{Head}
-use Rattle.message.specs.declared.answers.Reading.TheVariants as Reading
-use Rattle.message.specs.declared.answers.Writing.TheVariants.{Written}
 use Rattle.message.proofs.Lengths.{length_bytes}
 use Rattle.reader.specs.Reading.{read_of}
 use Rattle.format.proofs.Sized.{Sized, sized_of}
 use Rattle.format.proofs.WriteRead.{SameRead, write_read}
 use Rattle.reply.specs.Acknowledgement.{acknowledgement_of, blank_check, acknowledgement_bytes, acknowledging}
 use Rattle.writer.proofs.Bare.{length_zeros}
-use Rattle.admission.specs.Admission.{buffer_with, buffer_by}
+use Rattle.admission.specs.Admission.{received, as_new, as_duplicate, buffer_with, buffer_by}
+use Rattle.window.specs.declared.Verdict.{Verdict}
+use Rattle.message.specs.declared.answers.Refusal.{Refusal}
 use Rattle.admission.specs.declared.answers.Received.{Received}
 use Rattle.reception.specs.Receiving.{Beside, sender_of, answer_to, receive_of, receive_buffer}
 use Rattle.reception.proofs.Cleared.{acknowledgement_fits, is_acknowledged}
@@ -40,7 +42,7 @@ acknowledgement_length own sender id m = go (eqb m.encrypt 1)
     go false = refl
 
 -- Read again, it gives back exactly its fields, no payload, and the blank check bytes.
-pub acknowledgement_reads_back : (value : Message) (room n : ℕ) → Sized value → acknowledging value room ≡ Written n → SameRead value [] (blank_check value) (acknowledgement_bytes value)
+pub acknowledgement_reads_back : (value : Message) (room n : ℕ) → Sized value → acknowledging value room ≡ Ok n → SameRead value [] (blank_check value) (acknowledgement_bytes value)
 unfolding acknowledging acknowledgement_bytes
 acknowledgement_reads_back value room n sized e = write_read value [] (blank_check value) room n sized e
 
@@ -71,17 +73,17 @@ length_acknowledgement b bytes = length_bytes (answer_to b (message_of bytes)) [
 
 module _ (b : Beside) (bytes t : List ℕ) where
   -- What a call writes is the front of the buffer, as long as its answer says: nothing where R is not set.
-  pub changes_the_front_only : (old : List ℕ) (m : Message) (h : Head) (n : ℕ) → (receive_of b bytes t ≡ Received.New m h n) ⊎ (receive_of b bytes t ≡ Received.Duplicate m h n)
+  pub changes_the_front_only : (old : List ℕ) (m : Message) (h : Head) (n : ℕ) → (receive_of b bytes t ≡ as_new m h n) ⊎ (receive_of b bytes t ≡ as_duplicate m h n)
       → receive_buffer b bytes t old ≡ cond (message_of bytes).wants (acknowledgement_bytes (answer_to b (message_of bytes))) [] ++ drop n old
   unfolding receive_buffer buffer_by
   changes_the_front_only old m h n = ⊎_elim by by
     where
-      by : {a : Received} → receive_of b bytes t ≡ a → buffer_by (receive_of b bytes t) (answer_to b (message_of bytes)) (message_of bytes) old ≡ buffer_by a (answer_to b (message_of bytes)) (message_of bytes) old
-      by e = ap (λ (x : Received). buffer_by x (answer_to b (message_of bytes)) (message_of bytes) old) e
+      by : {a : (Result Received Refusal)} → receive_of b bytes t ≡ a → buffer_by (receive_of b bytes t) (answer_to b (message_of bytes)) (message_of bytes) old ≡ buffer_by a (answer_to b (message_of bytes)) (message_of bytes) old
+      by e = ap (λ (x : Result Received Refusal). buffer_by x (answer_to b (message_of bytes)) (message_of bytes) old) e
 
   -- A verdict comes with the value that reading gives, its head, and the acknowledgement's length: 34 bytes, 56 if encrypted, none where R is not set.
-  pub gives_value_and_length : (m : Message) (h : Head) (n : ℕ) → (receive_of b bytes t ≡ Received.New m h n) ⊎ (receive_of b bytes t ≡ Received.Duplicate m h n)
-      → (read_of bytes ≡ Reading.Taken m h) × (message_of bytes ≡ m) × (n ≡ cond m.wants (cond (encrypted m) 56 34) 0)
+  pub gives_value_and_length : (m : Message) (h : Head) (n : ℕ) → (receive_of b bytes t ≡ as_new m h n) ⊎ (receive_of b bytes t ≡ as_duplicate m h n)
+      → (read_of bytes ≡ Ok (with_head m h)) × (message_of bytes ≡ m) × (n ≡ cond m.wants (cond (encrypted m) 56 34) 0)
   gives_value_and_length m h n =
       ⊎_elim (λ e. let w = new_said b bytes t m h n e in (new_was_read b bytes t m h n e, w.value, long w)) (λ e. let w = duplicate_said b bytes t m h n e in (duplicate_was_read b bytes t m h n e, w.value, long w))
     where
@@ -108,14 +110,18 @@ module _ (b : Beside) (bytes t : List ℕ) where
           length-append (cond (message_of bytes).wants (acknowledgement_bytes (answer_to b (message_of bytes))) []) (drop n old)
           ∙ omega (arith, sized (message_of bytes).wants, w.reply, length-drop n old, room_for)
 
-      go : (a : Received) → receive_of b bytes t ≡ a → length (buffer_with a (cond (message_of bytes).wants (acknowledgement_bytes (answer_to b (message_of bytes))) []) old) ≡ length old
-      go (Received.New m h n) e = fits m h n (new_said b bytes t m h n e)
-      go (Received.Duplicate m h n) e = fits m h n (duplicate_said b bytes t m h n e)
-      go (Received.Refused r) e = refl
+      by : (v : Verdict) (m : Message) (h : Head) (n : ℕ) → receive_of b bytes t ≡ Ok (received v m h n)
+          → length (buffer_with (Ok (received v m h n)) (cond (message_of bytes).wants (acknowledgement_bytes (answer_to b (message_of bytes))) []) old) ≡ length old
+      by Verdict.New m h n e = fits m h n (new_said b bytes t m h n e)
+      by Verdict.Duplicate m h n e = fits m h n (duplicate_said b bytes t m h n e)
+
+      go : (a : Result Received Refusal) → receive_of b bytes t ≡ a → length (buffer_with a (cond (message_of bytes).wants (acknowledgement_bytes (answer_to b (message_of bytes))) []) old) ≡ length old
+      go (Ok a) e = by a.verdict a.taken.message a.taken.head a.reply e
+      go (Err r) e = refl
 
   -- Where R is set, the bytes at the front of the buffer, as many as the answer says, read back as the acknowledgement of the message.
   pub what_is_written_reads_back : AllBytes bytes → b.own < 256 ^ 8 → b.link < 256 ^ 8 → b.id < 256 ^ 4
-      → (old : List ℕ) (m : Message) (h : Head) (n : ℕ) → (receive_of b bytes t ≡ Received.New m h n) ⊎ (receive_of b bytes t ≡ Received.Duplicate m h n) → m.wants ≡ true
+      → (old : List ℕ) (m : Message) (h : Head) (n : ℕ) → (receive_of b bytes t ≡ as_new m h n) ⊎ (receive_of b bytes t ≡ as_duplicate m h n) → m.wants ≡ true
       → SameRead (answer_to b m) [] (blank_check (answer_to b m)) (take n (receive_buffer b bytes t old))
   what_is_written_reads_back all ours theirs given old m h n answer wants =
       subst (λ (x : Message). SameRead (answer_to b x) [] (blank_check (answer_to b x)) (take n (receive_buffer b bytes t old))) said.value

@@ -1,5 +1,5 @@
 -- Receiving ("Order", "Refusal numbers"). Assumes nothing.
-use Rattle.std.specs.Prelude.{ℕ, ◌-◌, ◌^◌, Bool, not, ◌&&◌, ◌||◌, cond, List, [], ◌∷◌, ◌++◌, eqb}
+use Rattle.std.specs.Prelude.{ℕ, ◌-◌, ◌^◌, Bool, not, ◌&&◌, ◌||◌, cond, List, [], ◌∷◌, ◌++◌, eqb, Result}
 use Rattle.message.specs.Order.{Condition, ◌when◌, first_refusal}
 use Rattle.message.specs.Layout.{encrypted}
 use Rattle.message.specs.Value.{message_of}
@@ -7,7 +7,9 @@ use Rattle.message.specs.Refusals.{nobody}
 use Rattle.message.specs.Answers.{head_of}
 use Rattle.reader.specs.Reading.{reading_order}
 use Rattle.message.specs.declared.value.Message.{Message}
-use Rattle.message.specs.declared.answers.Head.{Head}
+use Rattle.message.specs.declared.answers.Taken.{Taken}
+use Rattle.message.specs.declared.answers.Refusal.{Refusal}
+use Rattle.message.specs.declared.answers.Reason.TheVariants.{OwnNode, NotOurs, Sender, Check}
 use Rattle.reply.specs.Acknowledgement.{acknowledgement_of}
 use Rattle.admission.specs.Admission.{no_row, verdict_in, admission_order, answer_of, table_by, buffer_by}
 use Rattle.admission.specs.declared.answers.Received.{Received}
@@ -44,7 +46,7 @@ unchecked passed m = encrypted m && not passed
 
 -- 16 to 18: what the nodes and the check result decide
 unfoldable pub delivery_order : ℕ → ℕ → Bool → Message → List Condition
-delivery_order own link passed m = 16 when not_ours own m ∷ 17 when bad_link link m ∷ 18 when unchecked passed m ∷ []
+delivery_order own link passed m = NotOurs when not_ours own m ∷ Sender when bad_link link m ∷ Check when unchecked passed m ∷ []
 
 -- the value of the acknowledgement
 abbrev pub answer_to : Beside → Message → Message
@@ -56,18 +58,19 @@ after_reading b m full = delivery_order b.own b.link b.passed m ++ admission_ord
 
 -- the whole order, of a message and whether there is no row to be had
 unfoldable pub receiving_order : Beside → List ℕ → Bool → List Condition
-receiving_order b bytes full = 15 when nobody b.own ∷ reading_order bytes ++ after_reading b (message_of bytes) full
+receiving_order b bytes full = OwnNode when nobody b.own ∷ reading_order bytes ++ after_reading b (message_of bytes) full
 
 -- ---- the answer, the table and the buffer
 
 -- the answer to a message that was read
-abbrev pub deliver_of : Beside → Message → Head → List ℕ → Received
-deliver_of b m h t =
+abbrev pub deliver_of : Beside → Taken → List ℕ → Result Received Refusal
+deliver_of b taken t =
+    let m = taken.message in
     let sender = sender_of b.link m in
-    answer_of (first_refusal (after_reading b m (no_row t sender m.key))) (verdict_in t sender m) (answer_to b m) m h
+    answer_of (first_refusal (after_reading b m (no_row t sender m.key))) (verdict_in t sender m) (answer_to b m) m taken.head
 
 -- the answer to bytes, by the table
-unfoldable pub receive_of : Beside → List ℕ → List ℕ → Received
+unfoldable pub receive_of : Beside → List ℕ → List ℕ → Result Received Refusal
 receive_of b bytes t =
     let m = message_of bytes in
     let sender = sender_of b.link m in

@@ -2,11 +2,9 @@
 // and the admission, and goes by their contracts alone.
 #![tactic(auto)]
 
-mod answers;
 mod receiving;
 mod removing;
 
 pub use admission::Received;
-pub use answers::Removed;
-pub use receiving::receive;
+pub use receiving::{Delivery, receive};
 pub use removing::remove;

@@ -1,4 +1,5 @@
 -- The conditions of restoring's order in plain terms. Assumes nothing.
+use Rattle.std.specs.Prelude.{Option, Ok}
 use Prim.Native.Nat.{ℕ, ◌%◌, ◌≤◌, ◌<◌}
 use mathlib.Core.Path.{◌≡◌, refl, ap, ap₂}
 use mathlib.Core.Bool.{Bool, true, false, not, ◌||◌}
@@ -8,13 +9,13 @@ use native.Mathlib.Omega.{arith}
 use borrow.Author.Tests.{eqb-true, eqb-false, ltb-true, ltb-false, not-true, not-false, le-ltb, eq-eqb}
 use lib.Dec.{eqb, ltb}
 use lib.ListN.{length}
+use Rattle.message.specs.declared.answers.Reason.{Reason}
 use Rattle.message.proofs.Logic.{clash, or_false, or_true}
 use Rattle.message.proofs.Order.{first_none}
 use Rattle.table.specs.Table.{rows, first_below}
 use Rattle.table.proofs.Least.{least_none, least_holds, least_misses}
 use Rattle.records.specs.Records.{wrong_mark, bad_row, same_name}
 use Rattle.records.specs.Restoring.{record_count, record_at, row_from, some_below, bad_length, named_before, restoring_order, restored, restore_of}
-use Rattle.records.specs.declared.answers.Restored.TheVariants.{Placed}
 
 -- ---- a number below n
 
@@ -38,7 +39,7 @@ module _ (n : ℕ) (p : ℕ → Bool) where
           let l : s.number < first_below n p = omega (arith, s.below, ltb-false (first_below n p) n e) in
           clash (p s.number) s.holds (least_misses n p s.number l)
 
-  -- and none (`none_below` in Placed)
+  -- and none (`none_below` in Ok)
   pub none_when : ((k : ℕ) → k < n → p k ≡ false) → some_below n p ≡ false
   none_when h = le-ltb (first_below n p) n (omega (arith, least_none n p h))
 
@@ -123,9 +124,9 @@ module _ (bytes : List ℕ) where
   apart_when h = none_when (record_count bytes) (named_before bytes) (λ i l. none_when i (λ j. same_name (row_from bytes j) (row_from bytes i)) (h i l))
 
   -- where none of them holds, the rows are placed
-  pub placed_when : RightLength → AllMarked → AllGood → NamesApart → restore_of bytes ≡ Placed (record_count bytes)
+  pub placed_when : RightLength → AllMarked → AllGood → NamesApart → restore_of bytes ≡ Ok (record_count bytes)
   unfolding restore_of restoring_order
   placed_when r m g a =
-      ap (λ (k : ℕ). restored k (record_count bytes))
+      ap (λ (given : Option Reason). restored given (record_count bytes))
       (first_none (restoring_order bytes)
       (right_when r, (none_when (record_count bytes) (λ i. wrong_mark (record_at bytes i)) m, (none_when (record_count bytes) (λ i. bad_row (row_from bytes i)) g, (apart_when a, tt)))))

@@ -1,10 +1,12 @@
 -- Saved rows in numbers: a record, its row, and bytes that are refused, computed. Assumes nothing.
+use Rattle.std.specs.Prelude.{Ok, Err}
 use Prim.Native.Nat.{ℕ}
 use mathlib.Core.Path.{◌≡◌, refl, ap, ◌∙◌}
 use mathlib.Core.List.{List, [], ◌∷◌, ◌++◌}
 use native.Mathlib.Omega.{arith}
 use Rattle.wire.specs.Bytes.{front}
-use Rattle.message.specs.Answers.{refusal}
+use Rattle.message.specs.Reasons.{refusal}
+use Rattle.message.specs.declared.answers.Reason.TheVariants.{SavedMark, SavedLength, SavedRow, SavedTwice}
 use Rattle.window.specs.Rule.{bit_at}
 use Rattle.window.specs.Rows.{row_in_use}
 use Rattle.window.specs.declared.Row.{Row}
@@ -15,7 +17,6 @@ use Rattle.records.specs.Records.{record_of, row_in}
 use Rattle.records.specs.Saving.{records_of, saved_bytes}
 use Rattle.records.specs.Restoring.{named_before, restoring_order, restore_of, restored_table}
 use Rattle.records.specs.Sound.{Sound}
-use Rattle.records.specs.declared.answers.Restored.TheVariants.{Placed, Refused}
 use Rattle.records.proofs.Placed.{restored_row}
 use Rattle.records.proofs.Records.{bytes_of_record}
 use Rattle.records.proofs.SaveRestore.{records_placed, records_restored}
@@ -84,7 +85,7 @@ table_saves_to_the_record =
     ap records_of (alone ∙ ap (λ (row : Row). row ∷ []) here)
 
 -- Restoring it places one row, the first of the table, and no other: that row without bit 15.
-pub record_is_restored : (restore_of saved ≡ Placed 1) × (rows_in_use (restored_table saved) ≡ clean ∷ []) × (row_of (restored_table saved) 0 ≡ clean)
+pub record_is_restored : (restore_of saved ≡ Ok 1) × (rows_in_use (restored_table saved) ≡ clean ∷ []) × (row_of (restored_table saved) 0 ≡ clean)
 unfolding records_of record_of row_in front bit_at
 record_is_restored =
     let sound : Sound (clean ∷ []) = (
@@ -98,16 +99,16 @@ record_is_restored =
     )
 
 -- The same name twice gives 26.
-pub name_twice_gives_26 : restore_of (saved ++ saved) ≡ Refused (refusal 26)
+pub name_twice_gives_26 : restore_of (saved ++ saved) ≡ Err (refusal SavedTwice)
 unfolding restore_of restoring_order named_before first_below row_in front bit_at
 name_twice_gives_26 = refl
 
 -- A bad node in the first record, and a wrong mark in the second, give 23; the bad node alone gives 25.
-pub wrong_mark_before_bad_node : (restore_of (nobodys ++ turned) ≡ Refused (refusal 23)) × (restore_of (nobodys ++ saved) ≡ Refused (refusal 25))
+pub wrong_mark_before_bad_node : (restore_of (nobodys ++ turned) ≡ Err (refusal SavedMark)) × (restore_of (nobodys ++ saved) ≡ Err (refusal SavedRow))
 unfolding restore_of restoring_order named_before first_below row_in front bit_at
 wrong_mark_before_bad_node = (refl, refl)
 
 -- A record cut short, or with a byte more, gives 24.
-pub not_whole_gives_24 : (restore_of (0x52 ∷ []) ≡ Refused (refusal 24)) × (restore_of (saved ++ 0x52 ∷ []) ≡ Refused (refusal 24))
+pub not_whole_gives_24 : (restore_of (0x52 ∷ []) ≡ Err (refusal SavedLength)) × (restore_of (saved ++ 0x52 ∷ []) ≡ Err (refusal SavedLength))
 unfolding restore_of restoring_order named_before first_below row_in front bit_at
 not_whole_gives_24 = (refl, refl)

@@ -1,4 +1,5 @@
 -- The table that saved bytes say, row by row, and what bytes that are taken have. Assumes nothing.
+use Rattle.std.specs.Prelude.{Option, Some, None, Ok}
 use Prim.Native.Nat.{ℕ, zero, suc, ◌*◌, ◌%◌, ◌^◌, ◌≤◌, ◌<◌}
 use mathlib.Core.Path.{◌≡◌, refl, ap, subst, ◌∙◌}
 use mathlib.Core.Bool.{Bool, false}
@@ -10,6 +11,7 @@ use lib.ListN.{length, get_or, drop}
 use Rattle.wire.proofs.Digits.{AllBytes, none, more, all_take}
 use Rattle.wire.proofs.Parts.{byte_low}
 use Rattle.message.specs.Order.{first, NoneOf}
+use Rattle.message.specs.declared.answers.Reason.{Reason}
 use Rattle.message.proofs.Logic.{or_false}
 use Rattle.message.proofs.Order.{none_first}
 use Rattle.window.specs.declared.Row.{Row}
@@ -19,7 +21,6 @@ use Rattle.table.proofs.Least.{least_misses}
 use Rattle.table.proofs.Words.{Narrow, length_put, other_word, other_row, same_row, zero_word, empty_row}
 use Rattle.records.specs.Records.{row_in, wrong_mark, bad_row, same_name}
 use Rattle.records.specs.Restoring.{record_count, record_at, row_from, some_below, named_before, restoring_order, restored, restore_of, with_rows, restored_table}
-use Rattle.records.specs.declared.answers.Restored.TheVariants.{Placed}
 
 -- ---- rows put from the first on
 
@@ -130,15 +131,15 @@ pub record Taken (bytes : List ℕ) (n : ℕ) : Type 0 where
   pub alone : (i : ℕ) → i < record_count bytes → (j : ℕ) → j < i → same_name (row_from bytes j) (row_from bytes i) ≡ false
 
 -- no refusal, and the number is that of the records
-placed_of : (k n m : ℕ) → restored k n ≡ Placed m → (k ≡ 0) × (m ≡ n)
-placed_of zero n m e = (refl, cc)
-placed_of (suc k) n m e = let z : ◌≡◌ {A = ℕ} 0 1 = cc in let w : ⊥ = omega arith in absurd w
+placed_of : (given : Option Reason) (n m : ℕ) → restored given n ≡ Ok m → (given ≡ None) × (m ≡ n)
+placed_of None n m e = (refl, cc)
+placed_of (Some reason) n m e = absurd (cc)
 
-pub is_taken : (bytes : List ℕ) (n : ℕ) → restore_of bytes ≡ Placed n → Taken bytes n
+pub is_taken : (bytes : List ℕ) (n : ℕ) → restore_of bytes ≡ Ok n → Taken bytes n
 unfolding restore_of restoring_order named_before
 is_taken bytes n e =
     let w = placed_of (first (restoring_order bytes)) (record_count bytes) n e in
-    let h : NoneOf (restoring_order bytes) = none_first (restoring_order bytes) refl w.0 in
+    let h : NoneOf (restoring_order bytes) = none_first (restoring_order bytes) w.0 in
     let long = or_false _ _ h.0 in
     let even : length bytes % 18 ≡ 0 = eqb-true _ _ (not-false _ long.0) in
     record {

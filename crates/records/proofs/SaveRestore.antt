@@ -1,4 +1,5 @@
 -- Saving after restoring gives the same bytes, and restoring after saving the same rows. Assumes nothing.
+use Rattle.std.specs.Prelude.{Ok}
 use Prim.Native.Nat.{ℕ, zero, suc, ◌≤◌, ◌<◌}
 use mathlib.Core.Path.{◌≡◌, refl, ap, ap₂, ◌∙◌}
 use mathlib.Core.Bool.{Bool, false, cond}
@@ -13,7 +14,6 @@ use Rattle.records.specs.Records.{row_in, wrong_mark, bad_row, same_name}
 use Rattle.records.specs.Saving.{records_of, saved_bytes}
 use Rattle.records.specs.Restoring.{record_count, record_at, row_from, restore_of, restored_table}
 use Rattle.records.specs.Sound.{SoundRow, NoneNamed, Sound}
-use Rattle.records.specs.declared.answers.Restored.TheVariants.{Placed}
 use Rattle.records.proofs.Conditions.{placed_when}
 use Rattle.records.proofs.Placed.{record_bytes_lem, restored_kept, is_taken}
 use Rattle.records.proofs.Records.{mark_of_record, row_of_record, record_of_row}
@@ -22,7 +22,7 @@ use Rattle.records.proofs.Saved.{length_records, bytes_of_records, count_records
 -- ---- restored, then saved
 
 -- Saving after restoring gives the same bytes back.
-pub save_after_restore : (bytes : List ℕ) → AllBytes bytes → (n : ℕ) → restore_of bytes ≡ Placed n → saved_bytes (restored_table bytes) ≡ bytes
+pub save_after_restore : (bytes : List ℕ) → AllBytes bytes → (n : ℕ) → restore_of bytes ≡ Ok n → saved_bytes (restored_table bytes) ≡ bytes
 unfolding row_in
 save_after_restore bytes all n e =
     let k = is_taken bytes n e in
@@ -64,7 +64,7 @@ module _ (rs : List Row) (s : Sound rs) where
       ap row_in (record_at_lem rs i l) ∙ row_of_record (get_or rs i freed) h.used h.node h.key h.highest h.marks
 
   -- the records of sound rows are taken
-  pub records_placed : length rs ≤ rows → restore_of (records_of rs) ≡ Placed (length rs)
+  pub records_placed : length rs ≤ rows → restore_of (records_of rs) ≡ Ok (length rs)
   records_placed most =
       let b = records_of rs in
       let n : record_count b ≡ length rs = count_records rs in
@@ -72,7 +72,7 @@ module _ (rs : List Row) (s : Sound rs) where
       (λ i l. ap wrong_mark (record_at_lem rs i (omega arith)) ∙ mark_of_record (get_or rs i freed))
       (λ i l. ap bad_row (row_at i (omega arith)) ∙ (sound_at rs s i (omega arith)).good)
       (λ i l j m. ap₂ same_name (row_at j (omega arith)) (row_at i (omega arith)) ∙ apart_at rs s i (omega arith) j m)
-      ∙ ap Placed n
+      ∙ ap Ok n
 
   -- and are restored to those rows
   pub records_restored : length rs ≤ rows → rows_in_use (restored_table (records_of rs)) ≡ rs
@@ -84,7 +84,7 @@ module _ (rs : List Row) (s : Sound rs) where
       ∙ kept_sound rs s
 
 -- Restoring after saving takes the bytes, and gives the same rows in use, in the same order, with the same highest ids and marks.
-pub restore_after_save : (t : List ℕ) → Sound (rows_in_use t) → (restore_of (saved_bytes t) ≡ Placed (length (rows_in_use t))) × (rows_in_use (restored_table (saved_bytes t)) ≡ rows_in_use t)
+pub restore_after_save : (t : List ℕ) → Sound (rows_in_use t) → (restore_of (saved_bytes t) ≡ Ok (length (rows_in_use t))) × (rows_in_use (restored_table (saved_bytes t)) ≡ rows_in_use t)
 restore_after_save t s =
     let most = kept_most rows in_use (row_of t) in
     (records_placed (rows_in_use t) s most, records_restored (rows_in_use t) s most)

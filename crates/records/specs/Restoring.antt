@@ -1,12 +1,13 @@
 -- Restoring a table from saved bytes (request K1; refusals 23 to 26). Assumes nothing.
-use Rattle.std.specs.Prelude.{ℕ, zero, suc, ◌*◌, ◌/◌, ◌%◌, Bool, not, ◌||◌, List, [], ◌∷◌, eqb, ltb, length, take, drop}
+use Rattle.std.specs.Prelude.{ℕ, zero, suc, ◌*◌, ◌/◌, ◌%◌, Bool, not, ◌||◌, List, [], ◌∷◌, eqb, ltb, length, take, drop, Option, Result, Ok, Err}
 use Rattle.message.specs.Order.{Condition, ◌when◌, first}
-use Rattle.message.specs.Answers.{refusal}
+use Rattle.message.specs.Answers.{writing}
+use Rattle.message.specs.declared.answers.Reason.{Reason}
+use Rattle.message.specs.declared.answers.Refusal.{Refusal}
+use Rattle.message.specs.declared.answers.Reason.TheVariants.{SavedMark, SavedLength, SavedRow, SavedTwice}
 use Rattle.window.specs.declared.Row.{Row}
 use Rattle.table.specs.Table.{rows, empty_table, with_row, first_below}
 use Rattle.records.specs.Records.{record_bytes, row_in, wrong_mark, bad_row, same_name}
-use Rattle.records.specs.declared.answers.Restored.{Restored}
-use Rattle.records.specs.declared.answers.Restored.TheVariants.{Placed, Refused}
 
 -- ---- the records
 
@@ -39,21 +40,20 @@ named_before bytes i = some_below i (λ j. same_name (row_from bytes j) (row_fro
 -- 24, 23, 25, 26
 unfoldable pub restoring_order : List ℕ → List Condition
 restoring_order bytes =
-    24 when bad_length bytes
-    ∷ 23 when some_below (record_count bytes) (λ i. wrong_mark (record_at bytes i))
-    ∷ 25 when some_below (record_count bytes) (λ i. bad_row (row_from bytes i))
-    ∷ 26 when some_below (record_count bytes) (named_before bytes)
+    SavedLength when bad_length bytes
+    ∷ SavedMark when some_below (record_count bytes) (λ i. wrong_mark (record_at bytes i))
+    ∷ SavedRow when some_below (record_count bytes) (λ i. bad_row (row_from bytes i))
+    ∷ SavedTwice when some_below (record_count bytes) (named_before bytes)
     ∷ []
 
 -- ---- the answer and the table
 
 -- how many rows are placed, or the refusal
-abbrev pub restored : ℕ → ℕ → Restored
-restored zero n = Placed n
-restored (suc k) n = Refused (refusal (suc k))
+abbrev pub restored : Option Reason → ℕ → Result ℕ Refusal
+restored reason n = writing reason n
 
 -- the answer, which goes by the bytes alone
-unfoldable pub restore_of : List ℕ → Restored
+unfoldable pub restore_of : List ℕ → Result ℕ Refusal
 restore_of bytes = restored (first (restoring_order bytes)) (record_count bytes)
 
 -- a table with rows f 0 to f (n - 1) put from its first on
@@ -66,9 +66,9 @@ unfoldable pub restored_table : List ℕ → List ℕ
 restored_table bytes = with_rows (record_count bytes) (row_from bytes) empty_table
 
 -- it takes the place of the old one, all of which stays where restoring refuses
-abbrev pub table_after : Restored → List ℕ → List ℕ → List ℕ
-table_after (Placed n) new old = new
-table_after (Refused r) new old = old
+abbrev pub table_after : Result ℕ Refusal → List ℕ → List ℕ → List ℕ
+table_after (Ok n) new old = new
+table_after (Err r) new old = old
 
 -- the table after restoring
 unfoldable pub restore_table : List ℕ → List ℕ → List ℕ

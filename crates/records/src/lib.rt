@@ -2,14 +2,13 @@
 // is wrong with it. Saving is in `saving`, restoring in `restoring`, what it refuses in `faults`.
 #![tactic(auto)]
 
-mod answers;
 pub mod layout;
 
 ghost use Rattle.std.specs.Prelude.{◌≡◌};
 ghost use Rattle.records.specs.Records.{front_row, wrong_mark, bad_row};
 
-pub use answers::Restored;
 use window::Row;
+use wire::Number;
 
 // The row of the record at the front of a slice: in use, with what the fields say, whatever that is.
 // Where the slice is shorter than a record, a free row.
@@ -21,10 +20,10 @@ pub fn row_in(bytes: &[u8]) -> Row
     }
     Row {
         used: true,
-        node: wire::get_node(&bytes[layout::NODE_AT..layout::KEY_AT]),
-        key: wire::get16(&bytes[layout::KEY_AT..layout::HIGHEST_AT]),
-        highest: wire::get32(&bytes[layout::HIGHEST_AT..layout::MARKS_AT]),
-        marks: wire::get16(&bytes[layout::MARKS_AT..layout::RECORD]),
+        node: u64::get(&bytes[layout::NODE_AT..layout::KEY_AT]),
+        key: u16::get(&bytes[layout::KEY_AT..layout::HIGHEST_AT]),
+        highest: u32::get(&bytes[layout::HIGHEST_AT..layout::MARKS_AT]),
+        marks: u16::get(&bytes[layout::MARKS_AT..layout::RECORD]),
     }
 }
 
@@ -32,21 +31,15 @@ pub fn row_in(bytes: &[u8]) -> Row
 pub fn wrong_mark(bytes: &[u8]) -> bool
     ensures { result ≡ wrong_mark bytes.now }
 {
-    wire::get16(bytes) != layout::MARK
+    u16::get(bytes) != layout::MARK
 }
 
-// 25, of the row that a record says.
+// 25, of the row that a record says. The marks are asked before the key, which takes fewer instructions.
+#[tactic(auto, unfolding(window::specs::Rule::bit_at))]
 pub fn bad_row(row: Row) -> bool
     ensures { result ≡ bad_row row }
 {
-    if conditions::is_nobody(row.node) {
-        return true;
-    }
-    if Row::ABOVE_MARKS <= row.marks as u32 {
-        return true;
-    }
-    if !conditions::bad_key_type(row.key) {
-        return false;
-    }
-    row.key != 0
+    conditions::is_nobody(row.node)
+        || (row.marks >> Row::MARKS) % 2 == 1
+        || (conditions::bad_key_type(row.key) && row.key != 0)
 }

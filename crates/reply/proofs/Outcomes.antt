@@ -1,5 +1,6 @@
 -- Only one outcome fits each public contract of a reply: two that its clause allows are equal. That of `would_acknowledge` is among those of the format.
 -- The laws are stated over the clauses themselves, as the source has them. Assumes nothing.
+use Rattle.std.specs.Prelude.{Result}
 use Prim.Native.Nat.{ℕ}
 use mathlib.Core.Path.{◌≡◌, sym, ◌∙◌}
 use seplogic.Ra.Ura.{Ura}
@@ -9,30 +10,31 @@ use prog.Routine.{Routine}
 use types.Logic.{Logic}
 use contract.Monad.{Fun, conj, fact}
 use Rattle.message.specs.declared.value.Message.{Message}
-use Rattle.message.specs.declared.answers.Writing.{Writing}
+use Rattle.message.specs.declared.answers.Refusal.{Refusal}
 use Rattle.wire.proofs.One.{both}
-use Rattle.reply.specs.contracts.acknowledging.acknowledgement as acknowledgement
+use Rattle.reply.specs.declared.acknowledging.Reply.{Reply}
+use Rattle.reply.specs.contracts.acknowledging.Reply.acknowledgement as acknowledgement
 use Rattle.reply.specs.contracts.acknowledging.judged as judged
 use Rattle.reply.specs.contracts.planning.with_reason as reason
-use Rattle.reply.specs.contracts.planning.plan as plan
+use Rattle.reply.specs.contracts.acknowledging.Reply.plan as plan
 
 module _ {M : Type 1} {𝓤 : Ura M} (𝓛 : Logic 𝓤) (at_mem : Memory → SProp 𝓤) (run : Routine → Fun 𝓤) where
-  pub one_acknowledgement : (own sender id : ℕ) (m : Message) (r s : Message)
-      → let allows : Message → SProp 𝓤 = λ v. (acknowledgement.clauses 𝓛 at_mem run tt (own, (sender, (id, (m, tt))))).ensures tt v (own, (sender, (id, (m, tt)))) in
+  pub one_acknowledgement : (reply : Reply) (m : Message) (r s : Message)
+      → let allows : Message → SProp 𝓤 = λ v. (acknowledgement.clauses 𝓛 at_mem run tt (reply, (m, tt))).ensures tt v (reply, (m, tt)) in
       ent 𝓤 (conj 𝓤 (allows r) (allows s)) (fact 𝓤 (r ≡ s))
-  one_acknowledgement own sender id m r s = both 𝓤 _ _ _ (λ e f. e ∙ sym f)
+  one_acknowledgement reply m r s = both 𝓤 _ _ _ (λ e f. e ∙ sym f)
 
-  pub one_judged : (value : Message) (room : ℕ) (r s : Writing)
-      → let allows : Writing → SProp 𝓤 = λ v. (judged.clauses 𝓛 at_mem run tt (value, (room, tt))).ensures tt v (value, (room, tt)) in
+  pub one_judged : (value : Message) (room : ℕ) (r s : Result ℕ Refusal)
+      → let allows : Result ℕ Refusal → SProp 𝓤 = λ v. (judged.clauses 𝓛 at_mem run tt (value, (room, tt))).ensures tt v (value, (room, tt)) in
       ent 𝓤 (conj 𝓤 (allows r) (allows s)) (fact 𝓤 (r ≡ s))
   one_judged value room r s = both 𝓤 _ _ _ (λ e f. e ∙ sym f)
 
-  pub one_with_reason : (answer : Writing) (r s : Writing)
-      → let allows : Writing → SProp 𝓤 = λ v. (reason.clauses 𝓛 at_mem run tt (answer, tt)).ensures tt v (answer, tt) in
+  pub one_with_reason : (answer : Result ℕ Refusal) (r s : Result ℕ Refusal)
+      → let allows : Result ℕ Refusal → SProp 𝓤 = λ v. (reason.clauses 𝓛 at_mem run tt (answer, tt)).ensures tt v (answer, tt) in
       ent 𝓤 (conj 𝓤 (allows r) (allows s)) (fact 𝓤 (r ≡ s))
   one_with_reason answer r s = both 𝓤 _ _ _ (λ e f. e ∙ sym f)
 
-  pub one_plan : (own sender id : ℕ) (m : Message) (room : ℕ) (r s : Writing)
-      → let allows : Writing → SProp 𝓤 = λ v. (plan.clauses 𝓛 at_mem run tt (own, (sender, (id, (m, (room, tt)))))).ensures tt v (own, (sender, (id, (m, (room, tt))))) in
+  pub one_plan : (reply : Reply) (m : Message) (room : ℕ) (r s : Result ℕ Refusal)
+      → let allows : Result ℕ Refusal → SProp 𝓤 = λ v. (plan.clauses 𝓛 at_mem run tt (reply, (m, (room, tt)))).ensures tt v (reply, (m, (room, tt))) in
       ent 𝓤 (conj 𝓤 (allows r) (allows s)) (fact 𝓤 (r ≡ s))
-  one_plan own sender id m room r s = both 𝓤 _ _ _ (λ e f. e ∙ sym f)
+  one_plan reply m room r s = both 𝓤 _ _ _ (λ e f. e ∙ sym f)

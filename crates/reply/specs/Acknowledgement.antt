@@ -1,9 +1,9 @@
 -- The standalone acknowledgement of a message ("Acknowledgement"). Assumes nothing.
-use Rattle.std.specs.Prelude.{ℕ, zero, suc, true, false, not, List, [], ◌∷◌}
+use Rattle.std.specs.Prelude.{ℕ, zero, suc, true, false, not, List, [], ◌∷◌, Result}
 use Rattle.message.specs.Layout.{only, encrypted, check_length}
 use Rattle.message.specs.Value.{bytes_of}
 use Rattle.message.specs.declared.value.Message.{Message}
-use Rattle.message.specs.declared.answers.Writing.{Writing}
+use Rattle.message.specs.declared.answers.Refusal.{Refusal}
 use Rattle.judge.specs.Writing.{write_of}
 
 -- its value, of the message m that it answers: version 2, general, from the own node to the sender, under the id given; encrypt type, key
@@ -43,5 +43,5 @@ unfoldable pub acknowledgement_bytes : Message → List ℕ
 acknowledgement_bytes value = bytes_of value [] (blank_check value)
 
 -- what writing it into so much room answers
-unfoldable pub acknowledging : Message → ℕ → Writing
+unfoldable pub acknowledging : Message → ℕ → Result ℕ Refusal
 acknowledging value room = write_of value [] (blank_check value) room

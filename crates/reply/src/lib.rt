@@ -5,5 +5,5 @@
 mod acknowledging;
 mod planning;
 
-pub use acknowledging::{acknowledgement, judged, would_acknowledge};
-pub use planning::{plan, with_reason};
+pub use acknowledging::{Reply, judged};
+pub use planning::with_reason;

@@ -1,5 +1,5 @@
 -- The laws that belong to no one function.
 pub mod Promises
-pub mod Judged
 pub mod Outcomes
+pub mod Placing
 pub mod Whole

@@ -3,33 +3,13 @@ use Prim.Native.Nat.{ℕ, zero, suc, ◌+◌, ◌-◌, ◌*◌, ◌^◌, ◌≤�
 use mathlib.Core.Path.{◌≡◌, refl, sym, ap, ap₂, ◌∙◌}
 use mathlib.Core.List.{List, [], ◌∷◌, ◌++◌, append-nil}
 use native.Mathlib.Omega.{arith}
-use lib.ListN.{length, set, drop, replicate, length-append, length-replicate, replicate-append-replicate}
-use lib.Seq.{sets, drop_at, drop-length}
+use lib.ListN.{length, set, take, drop, replicate, length-append, length-replicate}
+use lib.Seq.{sets, take_at}
+use Rattle.std.proofs.lemmas.List.{drop-replicate}
 use Rattle.wire.proofs.Runs.{sets_then, sets_front}
 use Rattle.window.specs.declared.Row.{Row}
 use Rattle.table.specs.Table.{rows, empty_table, one_if, with_row}
 use Rattle.records.specs.Restoring.{with_rows}
-
--- ---- zeros
-
-abbrev zeros : ℕ → List ℕ
-zeros n = replicate n 0
-
--- one more behind those that were stored
-pub zero_more : (words now : List ℕ) (from at : ℕ) → from ≤ at → now ≡ sets words from (zeros (at - from)) → set now at 0 ≡ sets words from (zeros (at + 1 - from))
-zero_more words now from at l e =
-    let s : at - from + 1 ≡ at + 1 - from = omega arith in
-    ap (λ (w : List ℕ). set w at 0) e
-    ∙ sets_then words from (zeros (at - from)) (0 ∷ []) at (omega (arith, length-replicate {A = ℕ} (at - from) 0))
-    ∙ ap (sets words from) (replicate-append-replicate {A = ℕ} (at - from) 1 0 ∙ ap zeros s)
-
--- the words of the empty table from a place on
-zeros_behind : (k n : ℕ) → k ≤ n → drop k (zeros n) ≡ zeros (n - k)
-zeros_behind k n l =
-    let s : n ≡ k + (n - k) = omega arith in
-    ap (λ (m : ℕ). drop k (zeros m)) s
-    ∙ ap (drop k) (sym (replicate-append-replicate {A = ℕ} k (n - k) 0))
-    ∙ drop_at (zeros k) (zeros (n - k)) k (length-replicate {A = ℕ} k 0)
 
 -- ---- rows
 
@@ -64,21 +44,19 @@ rows_run (suc n) f t =
 
 -- ---- rows, and zeros behind them
 
+no_more : (l : List ℕ) → length l ≡ 0 → l ≡ []
+no_more [] e = refl
+no_more (x ∷ l) e = absurd (omega arith)
+
 -- they are the rows put into the empty table
-pub all_put : (n : ℕ) (f : ℕ → Row) (t after : List ℕ) → n ≤ rows → length t ≡ 96 → after ≡ sets (with_rows n f t) (3 * n) (zeros (96 - 3 * n)) → after ≡ with_rows n f empty_table
-all_put n f t after l e p =
+pub all_put : (n : ℕ) (f : ℕ → Row) (t zeros tail : List ℕ) → n ≤ rows → length t ≡ 96 → zeros ≡ replicate (96 - 3 * n) 0 → length tail ≡ 0
+    → take (3 * n) (with_rows n f t) ++ (zeros ++ tail) ≡ with_rows n f empty_table
+all_put n f t zeros tail l e z o =
     let w : List ℕ = words_to n f in
     let a : length w ≡ 3 * n = length_words n f in
-    let z : List ℕ = zeros (96 - 3 * n) in
-    let b : length z ≡ 96 - 3 * n = length-replicate {A = ℕ} (96 - 3 * n) 0 in
-    let c : length (w ++ z) ≡ length t = length-append w z ∙ omega (arith, a, b, l, e) in
-    p
-    ∙ ap (λ (u : List ℕ). sets u (3 * n) z) (rows_run n f t)
-    ∙ sets_then t 0 w z (3 * n) (omega (arith, a))
-    ∙ sets_front t (w ++ z) (omega (arith, c))
-    ∙ ap (λ (k : ℕ). (w ++ z) ++ drop k t) c
-    ∙ ap (λ (r : List ℕ). (w ++ z) ++ r) (drop-length t)
-    ∙ append-nil (w ++ z)
-    ∙ ap (λ (r : List ℕ). w ++ r) (sym (ap (λ (k : ℕ). drop k empty_table) a ∙ zeros_behind (3 * n) 96 (omega (arith, l))))
-    ∙ sym (sets_front empty_table w (omega (arith, a, l, length-replicate {A = ℕ} 96 0)))
-    ∙ sym (rows_run n f empty_table)
+    let front : take (3 * n) (with_rows n f t) ≡ w =
+    ap (take (3 * n)) (rows_run n f t ∙ sets_front t w (omega (arith, a))) ∙ take_at w (drop (length w) t) (3 * n) a in
+    let behind : zeros ++ tail ≡ drop (length w) empty_table =
+    ap (λ (r : List ℕ). zeros ++ r) (no_more tail o) ∙ append-nil zeros ∙ z ∙ sym (ap (λ (k : ℕ). drop k empty_table) a ∙ drop-replicate (3 * n) 96 0) in
+    ap₂ (λ (u v : List ℕ). u ++ v) front behind
+    ∙ sym (rows_run n f empty_table ∙ sets_front empty_table w (omega (arith, a, length-replicate {A = ℕ} 96 0)))

@@ -1,12 +1,13 @@
 -- The stream: a length of two bytes, low byte first, before each message ("Stream"). Assumes nothing.
-use Rattle.std.specs.Prelude.{ℕ, ◌+◌, ◌-◌, cond, List, [], ◌∷◌, ◌++◌, ltb, length, take, drop}
+use Rattle.std.specs.Prelude.{ℕ, ◌+◌, ◌-◌, cond, List, [], ◌∷◌, ◌++◌, ltb, length, take, drop, Result}
 use Rattle.wire.specs.Bytes.{part, little, little_bytes}
 use Rattle.message.specs.Order.{Condition, ◌when◌, first}
 use Rattle.message.specs.Refusals.{too_long}
 use Rattle.message.specs.Answers.{writing}
+use Rattle.message.specs.declared.answers.Refusal.{Refusal}
 use Rattle.message.specs.declared.answers.Unframed.{Unframed}
 use Rattle.message.specs.declared.answers.Unframed.TheVariants.{Whole, Incomplete}
-use Rattle.message.specs.declared.answers.Writing.{Writing}
+use Rattle.message.specs.declared.answers.Reason.TheVariants.{TooLong, NoRoom}
 
 -- what the length field demands
 abbrev pub demanded : List ℕ → ℕ
@@ -44,7 +45,7 @@ frame_bytes message = little_bytes 2 (length message) ++ message
 
 -- the order of framing; the contents are not judged
 unfoldable pub framing_order : List ℕ → ℕ → List Condition
-framing_order message room = 1 when too_long (length message) ∷ 19 when ltb room (2 + length message) ∷ []
+framing_order message room = TooLong when too_long (length message) ∷ NoRoom when ltb room (2 + length message) ∷ []
 
-unfoldable pub frame_of : List ℕ → ℕ → Writing
+unfoldable pub frame_of : List ℕ → ℕ → Result ℕ Refusal
 frame_of message room = writing (first (framing_order message room)) (2 + length message)

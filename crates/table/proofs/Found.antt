@@ -1,14 +1,44 @@
 -- What the search finds: by a name the first row that has it, and the lowest free row. Assumes nothing.
 use Prim.Native.Nat.{ℕ, ◌≤◌, ◌<◌}
-use mathlib.Core.Path.{◌≡◌, sym, ap, ◌∙◌, subst}
-use mathlib.Core.Bool.{true, false}
+use mathlib.Core.Path.{◌≡◌, refl, sym, ap, ◌∙◌, subst}
+use mathlib.Core.Bool.{Bool, true, false, cond}
 use mathlib.Core.List.{List}
 use native.Mathlib.Omega.{arith}
-use borrow.Author.Tests.{not-true, not-false}
+use borrow.Author.Tests.{not-true, not-false, ltb-true, ltb-false, lt-ltb, le-ltb}
+use Rattle.std.proofs.Common.{Some, None, ltb}
 use Rattle.window.specs.declared.Row.{Row}
-use Rattle.table.specs.Table.{rows, row_of, named, is_free, find_of, free_of}
+use Rattle.table.specs.Table.{rows, row_of, named, is_free, find_of, free_of, found_row}
 use Rattle.table.proofs.Least.{least_holds, least_misses, least_none}
 use Rattle.table.proofs.Words.{named_row}
+
+-- ---- a number, or none
+
+-- the number found is that of a row
+pub found_some : (n i : ℕ) → Some i ≡ found_row n → (i ≡ n) × (i < rows)
+unfolding found_row
+found_some n i = go (ltb n rows) refl
+  where
+    go : (b : Bool) → ltb n rows ≡ b → Some i ≡ cond b (Some n) None → (i ≡ n) × (i < rows)
+    go true l e = let s : i ≡ n = cc in (s, omega (arith, ltb-true n rows l))
+    go false l e = cc
+
+-- where there is none, none was found
+pub found_none : (n : ℕ) → None ≡ found_row n → rows ≤ n
+unfolding found_row
+found_none n = go (ltb n rows) refl
+  where
+    go : (b : Bool) → ltb n rows ≡ b → None ≡ cond b (Some n) None → rows ≤ n
+    go true l e = cc
+    go false l e = omega (arith, ltb-false n rows l)
+
+-- and back
+pub is_found : (i n : ℕ) → i ≡ n → i < rows → Some i ≡ found_row n
+unfolding found_row
+is_found i n e l = ap Some e ∙ sym (ap (λ (b : Bool). cond b (Some n) None) (lt-ltb n rows (omega arith)))
+
+pub none_is_found : (n : ℕ) → rows ≡ n → None ≡ found_row n
+unfolding found_row
+none_is_found n e = sym (ap (λ (b : Bool). cond b (Some n) None) (le-ltb n rows (omega arith)))
 
 -- ---- by a name
 

@@ -53,9 +53,6 @@ abbrev pub Tried : ℕ → (ℕ → Bool) → ℕ → Type 0
 Tried n p i = (i ≤ n) × ((k : ℕ) → k < i → p k ≡ false)
 
 module _ (n : ℕ) (p : ℕ → Bool) where
-  pub tried_none : Tried n p 0
-  tried_none = (omega arith, λ k l. let z : ⊥ = omega arith in absurd z)
-
   -- all are tried
   pub tried_all : (i : ℕ) → Tried n p i → n ≤ i → n ≡ first_below n p
   tried_all i h l = sym (least_none n p (λ k g. h.1 k (omega arith)))

@@ -5,4 +5,4 @@ pub use Rattle.table.proofs.Words.{same_row, other_row, other_word, length_put}
 -- Putting ids alone into the row of a name, as rolling it gives them, comes to the row put whole.
 pub use Rattle.table.proofs.Ids.{rolled_ids_put}
 -- Only one outcome fits each public function.
-pub use Rattle.table.proofs.Outcomes.{one_put_words, one_row_from, one_state_of, one_use_bit}
+pub use Rattle.table.proofs.Outcomes.{one_put_at, one_put_words, one_row_from, one_state_of, one_use_bit, one_as_rows}

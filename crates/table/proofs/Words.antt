@@ -8,6 +8,7 @@ use borrow.Author.Tests.{eq-eqb, ne_eqb, eqb-true, eqb-false, lt-ltb, le-ltb}
 use lib.ListN.{length, get_or, set, replicate, length-set}
 use lib.Seq.{get_or-set_same, get_or-set_other}
 use lib.Dec.{eqb}
+use Rattle.std.specs.Int.{from_bool}
 use Rattle.message.proofs.Logic.{clash}
 use Rattle.window.specs.declared.Row.{Row}
 use Rattle.table.specs.Table.{rows, empty_table, one_if, freed, row_of, with_row, row_at, put_at, named, row_under}
@@ -15,6 +16,11 @@ use Rattle.table.specs.Table.{rows, empty_table, one_if, freed, row_of, with_row
 -- the row of three words
 abbrev pub fields : ℕ → ℕ → ℕ → Row
 fields x y z = record { used = eqb (y / 2 ^ 48 % 2) 1; node = x; key = y / 2 ^ 32 % 2 ^ 16; highest = y % 2 ^ 32; marks = z % 2 ^ 16 }
+
+-- the library's number of a bit is the one that stands in a row
+pub from_bool_one_if : (b : Bool) → from_bool b ≡ one_if b
+from_bool_one_if true = refl
+from_bool_one_if false = refl
 
 -- ---- a name, as the search compares it
 

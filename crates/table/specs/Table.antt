@@ -1,5 +1,6 @@
 -- The table: rows in words, three to a row, the search for one, and those in use ("Rows and verdicts"). Assumes nothing.
-use Rattle.std.specs.Prelude.{ℕ, zero, suc, ◌+◌, ◌*◌, ◌/◌, ◌%◌, ◌^◌, Bool, true, false, not, ◌&&◌, cond, List, [], ◌∷◌, get_or, set, replicate, eqb, ltb}
+use Rattle.std.specs.Prelude.{ℕ, zero, suc, ◌+◌, ◌*◌, ◌/◌, ◌%◌, ◌^◌, Bool, true, false, not, ◌&&◌, cond, List, [], ◌∷◌, get_or, set, replicate, eqb, ltb, Option, None, Some}
+use Rattle.std.specs.Simd.{first_chunks}
 use Rattle.window.specs.declared.Row.{Row}
 
 -- how many rows the gateway has
@@ -14,6 +15,10 @@ empty_table = replicate (3 * rows) 0
 abbrev pub one_if : Bool → ℕ
 one_if true = 1
 one_if false = 0
+
+-- the words of a table, three to a row
+unfoldable pub words_by_row : List ℕ → List (List ℕ)
+words_by_row t = first_chunks 3 rows t
 
 -- the row that stands in the words from 3 * i on: node, then highest id, key id and in-use bit in one word, then the marks
 unfoldable pub row_of : List ℕ → ℕ → Row
@@ -43,6 +48,10 @@ row_at t i = cond (ltb i rows) (row_of t i) freed
 unfoldable pub put_at : List ℕ → ℕ → Row → List ℕ
 put_at t i row = cond (ltb i rows) (with_row t i row) t
 
+-- the same of n words, three to a row
+abbrev pub put_among : ℕ → List ℕ → ℕ → Row → List ℕ
+put_among n words i row = cond (ltb i (n / 3)) (with_row words i row) words
+
 -- the least number below n at which p holds, or n
 unfoldable pub first_below : ℕ → (ℕ → Bool) → ℕ
 first_below zero p = 0
@@ -71,6 +80,10 @@ find_of n t node key = first_below n (λ i. named node key (row_of t i))
 -- of n rows, the lowest-numbered free one, or n
 unfoldable pub free_of : ℕ → List ℕ → ℕ
 free_of n t = first_below n (λ i. is_free (row_of t i))
+
+-- the number of a row that was found: rows stands for none
+unfoldable pub found_row : ℕ → Option ℕ
+found_row i = cond (ltb i rows) (Some i) None
 
 -- ---- the rows of which something holds
 

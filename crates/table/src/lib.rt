@@ -7,4 +7,4 @@ pub mod layout;
 mod rows;
 
 pub use layout::{ROWS, WORDS};
-pub use rows::{put_words, row_from, state_of, use_bit};
+pub use rows::{as_rows, put_at, put_words, row_from, state_of};

@@ -1,14 +1,25 @@
 // One row in three words: reading it, and putting it.
-ghost use Rattle.std.specs.Prelude.{◌≡◌, [], ◌∷◌, ◌+◌, ◌*◌, ◌^◌, ◌≤◌};
-ghost use Rattle.table.specs.Table.{one_if, row_of, with_row};
+ghost use Rattle.std.specs.Prelude.{◌≡◌, ◌+◌, ◌*◌, ◌^◌, length};
+ghost use Rattle.table.specs.Table.{rows, one_if, row_of, with_row, put_among, words_by_row};
 
 use crate::layout;
 use window::Row;
 
-// The row that three words hold: node, then in-use bit, key id and highest id in one, then the marks.
-pub fn row_from(node: u64, state: u64, marks: u64) -> Row
-    ensures { result ≡ row_of (node ∷ state ∷ marks ∷ []) 0 }
+// The words of a table, three to a row.
+#[tactic(auto, using(crate::proofs::ByRow::length_by_row), unfolding(crate::specs::Table::words_by_row))]
+pub fn as_rows(table: &[u64; layout::WORDS]) -> &[[u64; layout::ROW]]
+    ensures { (result.now ≡ words_by_row table.now) × (length result.now ≡ rows) }
 {
+    table.as_chunks().0
+}
+
+// The row that three words hold: node, then in-use bit, key id and highest id in one, then the marks.
+#[tactic(auto, unfolding(crate::specs::Table::row_of))]
+pub fn row_from(words: &[u64; layout::ROW]) -> Row
+    ensures { result ≡ row_of words.now 0 }
+{
+    let [node, state, marks] = *words;
+    // A remainder makes each number fit before its cast; `From` does not narrow.
     Row {
         used: state / layout::IN_USE % 2 == 1,
         node,
@@ -18,25 +29,30 @@ pub fn row_from(node: u64, state: u64, marks: u64) -> Row
     }
 }
 
-// 1 for a row in use, else 0.
-pub fn use_bit(used: bool) -> u64
-    ensures { (result ≡ one_if used) × (result ≤ 1) }
-{
-    if used { 1 } else { 0 }
-}
-
 // Word 1 of a row: in-use bit, key id and highest id.
 pub fn state_of(row: Row) -> u64
     ensures { result ≡ one_if row.used * 2 ^ 48 + (row.key * 2 ^ 32 + row.highest) }
 {
-    use_bit(row.used) * layout::IN_USE + (row.key as u64 * layout::KEY + row.highest as u64)
+    u64::from(row.used) * layout::IN_USE
+        + (u64::from(row.key) * layout::KEY + u64::from(row.highest))
 }
 
-// Puts a row into three words, whole.
+// Puts a row into its three words of many, whole; all other words stay. Where it is not among them nothing changes.
+#[tactic(auto, unfolding(crate::specs::Table::with_row))]
+pub fn put_at<const N: usize>(words: &mut [u64; N], number: usize, row: Row)
+    ensures { words.new ≡ put_among N words.old number row }
+{
+    if number < N / layout::ROW {
+        let at = layout::ROW * number;
+        words[at] = row.node;
+        words[at + layout::STATE] = state_of(row);
+        words[at + layout::MARKS] = u64::from(row.marks);
+    }
+}
+
+// Puts a row into three words, whole. It only calls `put_at`, and stands because `one_put_words` is a law of its clause.
 pub fn put_words(words: &mut [u64; layout::ROW], row: Row)
     ensures { words.new ≡ with_row words.old 0 row }
 {
-    words[layout::NODE] = row.node;
-    words[layout::STATE] = state_of(row);
-    words[layout::MARKS] = row.marks as u64;
+    put_at(words, 0, row);
 }

@@ -8,61 +8,50 @@ use table::{ROWS, WORDS, layout};
 use window::Row;
 
 // The row at a number. Past the last row it is free, and zero in every field.
+#[tactic(auto, using(table::proofs::Words::row_past))]
 pub fn row_at(table: &[u64; WORDS], number: usize) -> Row
     ensures { result ≡ row_at table.now number }
 {
-    if ROWS <= number {
-        return Row::FREE;
+    match table::as_rows(table).get(number) {
+        Some(words) => table::row_from(words),
+        None => Row::FREE,
     }
-    table::row_from(
-        table[layout::ROW * number],
-        table[layout::ROW * number + layout::STATE],
-        table[layout::ROW * number + layout::MARKS],
-    )
 }
 
-// The row at a number, whose name and use the caller knows already, as after a search: what is left to
-// be read of it is its ids. Past the last row they are zero.
+// The row at a number, in use under a name that the caller knows already, as after a search: its ids are
+// those of the row there, whatever that says of its name and its use. Past the last row they are zero.
 pub fn row_under(table: &[u64; WORDS], number: usize, node: u64, key: u16) -> Row
     ensures { result ≡ row_under node key (row_at table.now number) }
 {
-    if number < ROWS {
-        return Row {
-            used: true,
-            node,
-            key,
-            highest: (table[layout::ROW * number + layout::STATE] % layout::IDS) as u32,
-            marks: (table[layout::ROW * number + layout::MARKS] % layout::MARK_BITS) as u16,
-        };
+    Row {
+        used: true,
+        node,
+        key,
+        ..row_at(table, number)
     }
-    Row::open(node, key, 0)
 }
 
 // Puts a row at a number, its three words whole; all other words stay. Past the last row nothing
-// changes.
+// changes. It only calls `table::put_at`, and stands because `one_put_row` is a law of its clause.
+#[tactic(auto, unfolding(table::specs::Table::put_at))]
 pub fn put_row(table: &mut [u64; WORDS], number: usize, row: Row)
     ensures { table.new ≡ put_at table.old number row }
 {
-    if ROWS <= number {
-        return;
-    }
-    table[layout::ROW * number] = row.node;
-    table[layout::ROW * number + layout::STATE] = table::state_of(row);
-    table[layout::ROW * number + layout::MARKS] = row.marks as u64;
+    table::put_at(table, number, row);
 }
 
 // Puts other ids into the row at a number: its name and its use stay as they are. Past the last row
-// nothing changes.
+// nothing changes. The words are stored to by their places: what `as_chunks_mut` lends, the library does
+// not say how the table ends.
+#[tactic(auto, using(table::proofs::Ids::ids_put, table::proofs::Words::put_past))]
 pub fn put_ids(table: &mut [u64; WORDS], number: usize, highest: u32, marks: u16)
     ensures { table.new ≡ put_at table.old number (with_ids (row_at table.old number) highest marks) }
 {
     if ROWS <= number {
         return;
     }
-    table[layout::ROW * number + layout::STATE] = table[layout::ROW * number + layout::STATE]
-        / layout::KEY
-        % layout::KEYS_AND_USE
-        * layout::KEY
-        + highest as u64;
-    table[layout::ROW * number + layout::MARKS] = marks as u64;
+    let at = layout::ROW * number;
+    let name = table[at + layout::STATE] / layout::KEY % layout::KEYS_AND_USE;
+    table[at + layout::STATE] = name * layout::KEY + u64::from(highest);
+    table[at + layout::MARKS] = u64::from(marks);
 }

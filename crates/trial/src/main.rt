@@ -2,16 +2,15 @@
 // with how many ids are new by it and how many are duplicates, and last the least number; or the refusal.
 #![tactic(auto)]
 
-ghost use Rattle.std.specs.Prelude.{◌≡◌, ◌≤◌, length};
+ghost use Rattle.std.specs.Prelude.{◌≡◌};
 ghost use Rattle.trial.specs.Lines.{tally_line};
 
 use lines::Figure;
 use std::io;
-use std::io::Read;
-use widths::{Tally, Tried};
+use widths::{Refusal, Tally, Tried};
 
 // One byte more than a trial takes is asked for, so that it is noticed where there is one.
-const SPACE: usize = widths::MOST_BYTES + 1;
+const MOST: usize = widths::MOST_BYTES + 1;
 
 // What the line of a tally says.
 fn line_of(tally: Tally) -> Figure
@@ -20,49 +19,30 @@ fn line_of(tally: Tally) -> Figure
     Figure::Marks(tally.held, tally.new, tally.duplicate)
 }
 
-// Prints a line.
+// Prints the line of a figure. Fails where it cannot be written.
 fn show(rt: &impl Print, figure: Figure) -> io::Result<()> {
     let mut text = [0u8; lines::LINE];
     let count = lines::figures(figure, &mut text);
     rt.write_all(&text[..count])
 }
 
-// Prints the lines of an answer, in their order.
-fn tell(rt: &impl Print, tried: Tried) -> io::Result<()> {
-    match tried {
-        Tried::Counted(few, more, most, least) => {
-            show(rt, line_of(few))?;
-            show(rt, line_of(more))?;
-            show(rt, line_of(most))?;
-            show(rt, Figure::Least(least))
-        }
-        Tried::Refused(number) => show(rt, Figure::Refused(number)),
-    }
-}
-
-// Reads until the space is full or the input ends. Gives how many bytes stand at its front. A read that fails ends it too, and is kept.
-fn fill(input: &mut impl Read, space: &mut [u8], read: &mut io::Result<()>) -> usize
-    ensures { result ≤ length space.new }
-{
-    let mut count = 0;
-    while count < space.len() {
-        match input.read(&mut space[count..]) {
-            Ok(0) => break,
-            Ok(got) => count += got,
-            Err(error) => {
-                *read = Err(error);
-                break;
+// Prints the lines of an answer, in their order. After a line that fails none is printed.
+fn tell(rt: &impl Print, answer: Result<Tried, Refusal>) -> io::Result<()> {
+    match answer {
+        Ok(tried) => {
+            for tally in [tried.few, tried.more, tried.most] {
+                show(rt, line_of(tally))?;
             }
+            show(rt, Figure::Least(tried.least))
         }
+        Err(refusal) => show(rt, Figure::Refused(refusal.number())),
     }
-    count
 }
 
-// Up to 65,537 bytes are read; later bytes are not.
+// Up to 65,537 bytes are read; later bytes are not. Where a read fails, the bytes before it are answered.
 fn main(rt: HostRuntime) -> io::Result<()> {
-    let mut space = [0u8; SPACE];
-    let mut read = Ok(());
-    let count = fill(&mut rt.reader(), &mut space, &mut read);
+    let mut space = [0; MOST];
+    let (count, read) = input::fill(&mut rt.reader(), &mut space);
     tell(&rt, widths::trial(&space[..count]))?;
     read
 }

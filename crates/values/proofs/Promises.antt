@@ -3,8 +3,8 @@
 -- Only one outcome fits `load`.
 pub use Rattle.values.proofs.Outcomes.{one_load}
 use Prim.Native.Nat.{ℕ, ◌≤◌}
-use mathlib.Core.Path.{◌≡◌, ap}
-use mathlib.Core.Bool.{true, not}
+use mathlib.Core.Path.{◌≡◌}
+use mathlib.Core.Bool.{true}
 use mathlib.Core.List.{List}
 use borrow.Author.Tests.{lt-ltb}
 use Rattle.wire.proofs.Digits.{AllBytes}
@@ -17,7 +17,6 @@ use Rattle.format.proofs.HeaderForth.{header_forth}
 use Rattle.format.proofs.Sized.{Sized, read_is_sized}
 use Rattle.places.specs.Fields.{fields_with, fields_of}
 use Rattle.values.specs.Values.{fits, value_from}
-use Rattle.values.proofs.Fitted.{true_and}
 use Rattle.values.proofs.Flags.{flags_back, flags_low}
 
 -- a value whose fields are within their types, of a version and an encrypt type that can be written
@@ -58,7 +57,7 @@ module _ (m : Message) (typed : Typed m) (len verdict reply : ℕ) where
   value_fits =
       let h = header_forth m typed.version typed.encrypt in
       let s = typed.sized in
-      true_and _ _ (true_and _ _ (true_and _ _ (true_and _ _ (true_and _ _ (true_and _ _ (true_and _ _ (true_and _ _ (lt-ltb _ _ h.low) (ap not h.clean)) (flags_low m)) (lt-ltb _ _ s.id)) (lt-ltb _ _ s.key)) (lt-ltb _ _ s.kind)) (lt-ltb _ _ s.exchange)) (lt-ltb _ _ s.profile)) (lt-ltb _ _ s.acknowledged)
+      simp (lt-ltb _ _ h.low, h.clean, flags_low m, lt-ltb _ _ s.id, lt-ltb _ _ s.key, lt-ltb _ _ s.kind, lt-ltb _ _ s.exchange, lt-ltb _ _ s.profile, lt-ltb _ _ s.acknowledged)
 
 -- Every value that reading takes is such a one.
 pub read_is_typed : (bytes : List ℕ) → AllBytes bytes → (m : Message) → read_of bytes ≡ as_taken m → Typed m

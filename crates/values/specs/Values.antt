@@ -1,10 +1,8 @@
 -- The value that places say ("Writing"). Assumes nothing.
-use Rattle.std.specs.Prelude.{ℕ, ◌^◌, ◌<◌, Bool, not, ◌&&◌, cond, List, ltb, get_or}
+use Rattle.std.specs.Prelude.{ℕ, ◌^◌, Bool, not, ◌&&◌, cond, List, ltb, get_or, Option, Some, None}
 use Rattle.message.specs.Value.{bits, bit}
 use Rattle.message.specs.Refusals.{reserved}
 use Rattle.message.specs.declared.value.Message.{Message}
-use Rattle.values.specs.declared.Loaded.{Loaded}
-use Rattle.values.specs.declared.Loaded.TheVariants.{Value, Unfit}
 
 -- a number of 16 bits, none of them set that no field has
 abbrev pub clean_header : ℕ → Bool
@@ -21,15 +19,6 @@ fits fields =
     && ltb (get_or fields 7 0) (2 ^ 16)
     && ltb (get_or fields 8 0) (2 ^ 32)
     && ltb (get_or fields 9 0) (2 ^ 32)
-
--- the bounds of the numbers that stand alone in their places, by name
-pub record Fitting (fields : List ℕ) : Type 0 where
-  pub id : get_or fields 2 0 < 2 ^ 32
-  pub key : get_or fields 5 0 < 2 ^ 16
-  pub kind : get_or fields 6 0 < 256
-  pub exchange : get_or fields 7 0 < 2 ^ 16
-  pub profile : get_or fields 8 0 < 2 ^ 32
-  pub acknowledged : get_or fields 9 0 < 2 ^ 32
 
 -- the value that the first ten places say: version, T, S, D and encrypt type by the header's bits, I, A and R by the flags'
 unfoldable pub value_from : List ℕ → Message
@@ -54,5 +43,5 @@ value_from fields =
     }
 
 -- the value, where every place fits
-unfoldable pub load_of : List ℕ → Loaded
-load_of fields = cond (fits fields) (Value (value_from fields)) Unfit
+unfoldable pub load_of : List ℕ → Option Message
+load_of fields = cond (fits fields) (Some (value_from fields)) None

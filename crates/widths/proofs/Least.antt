@@ -4,6 +4,7 @@ use mathlib.Core.Bool.{Bool, true, false, cond, ◌&&◌, true≢false}
 use mathlib.Core.List.{List, [], ◌∷◌}
 use Prim.Native.Nat.{ℕ, zero, suc, ◌+◌, ◌≤◌, ◌<◌, max}
 use native.Mathlib.Omega.{arith}
+use Rattle.std.proofs.Math.Bool.{and-eq-true_iff}
 use native.Mathlib.Decide.{dec_le}
 use Rattle.window.specs.Rows.{behind_encrypted}
 use Rattle.window.specs.declared.Verdict.{Verdict}
@@ -26,17 +27,12 @@ same_itself : (vs : List Verdict) → same_verdicts vs vs ≡ true
 same_itself [] = refl
 same_itself (v ∷ vs) = ap₂ (λ (a b : Bool). a && b) (verdict_itself v) (same_itself vs)
 
-both : (a b : Bool) → (a && b) ≡ true → (a ≡ true) × (b ≡ true)
-both true true e = (refl, refl)
-both true false e = absurd (true≢false (sym e))
-both false b e = absurd (true≢false (sym e))
-
 same_equal : (us vs : List Verdict) → same_verdicts us vs ≡ true → us ≡ vs
 same_equal [] [] e = refl
 same_equal [] (v ∷ vs) e = absurd (true≢false (sym e))
 same_equal (u ∷ us) [] e = absurd (true≢false (sym e))
 same_equal (u ∷ us) (v ∷ vs) e =
-    let b = both (same_verdict u v) (same_verdicts us vs) e in
+    let b = (and-eq-true_iff (same_verdict u v) (same_verdicts us vs)).0 e in
     ap₂ (λ (x : Verdict) (xs : List Verdict). x ∷ xs) (verdict_equal u v b.0) (same_equal us vs b.1)
 
 -- ---- the search for the first

@@ -14,7 +14,8 @@ use Rattle.window.specs.declared.Row.{Row}
 use Rattle.window.proofs.Rows.{list_free}
 use Rattle.window.proofs.Promises.{gateway_history_of_a_row}
 use Rattle.widths.specs.Trial.{ids_of, verdicts_with, farthest_new, lost_from, without_lost, tally_of, least_of, Smallest, NewToo, recorded, counted_of, trial_of}
-use Rattle.widths.specs.declared.Tried.TheVariants.{Refused}
+use Rattle.std.specs.Prelude.{Ok, Err}
+use Rattle.widths.specs.declared.Refusal.TheVariants.{BadIds}
 use Rattle.widths.proofs.Fewer.{same_verdicts_lem, other_verdicts, farthest_most}
 use Rattle.widths.proofs.Least.{least_is}
 use Rattle.widths.proofs.Running.{counted_once}
@@ -24,26 +25,26 @@ use Rattle.widths.proofs.More.{within_none, new_too, lost_besides, without_lost_
 -- ---- the refusal
 module _ (bytes : List ℕ) where
   -- A number of bytes that is not a multiple of 4 is refused.
-  pub broken_id_is_refused : (length bytes % 4 ≡ 0 → ⊥) → trial_of bytes ≡ Refused 28
+  pub broken_id_is_refused : (length bytes % 4 ≡ 0 → ⊥) → trial_of bytes ≡ Err BadIds
   broken_id_is_refused h = decided bytes true (ap (λ (b : Bool). not b || ltb 65536 (length bytes)) (ne_eqb (length bytes % 4) 0 h))
 
   -- More than 65,536 bytes are.
-  pub too_many_are_refused : 65536 < length bytes → trial_of bytes ≡ Refused 28
+  pub too_many_are_refused : 65536 < length bytes → trial_of bytes ≡ Err BadIds
   too_many_are_refused h =
       decided bytes true
       (ap (λ (b : Bool). not (eqb (length bytes % 4) 0) || b) (lt-ltb 65536 (length bytes) h) ∙ or-true (not (eqb (length bytes % 4) 0)))
 
   -- All others are counted.
-  pub whole_ids_are_counted : length bytes % 4 ≡ 0 → length bytes ≤ 65536 → trial_of bytes ≡ counted_of (ids_of bytes)
+  pub whole_ids_are_counted : length bytes % 4 ≡ 0 → length bytes ≤ 65536 → trial_of bytes ≡ Ok (counted_of (ids_of bytes))
   whole_ids_are_counted h l =
       decided bytes false (ap₂ (λ (a b : Bool). not a || b) (eq-eqb (length bytes % 4) 0 h) (le-ltb 65536 (length bytes) l))
 
 -- ---- the ids
 
 -- Ids that were recorded are the ids that are tried, up to 16,384 of them.
-pub recorded_ids_are_tried : (ids : List ℕ) → Ids ids → length ids ≤ 16384 → trial_of (recorded ids) ≡ counted_of ids
+pub recorded_ids_are_tried : (ids : List ℕ) → Ids ids → length ids ≤ 16384 → trial_of (recorded ids) ≡ Ok (counted_of ids)
 recorded_ids_are_tried ids h l =
-    whole_ids_are_counted (recorded ids) (omega (arith, recorded_length ids)) (omega (arith, recorded_length ids)) ∙ ap counted_of (recorded_back ids h)
+    whole_ids_are_counted (recorded ids) (omega (arith, recorded_length ids)) (omega (arith, recorded_length ids)) ∙ ap (λ (js : List ℕ). Ok (counted_of js)) (recorded_back ids h)
 
 -- ---- the counts
 

@@ -1,16 +1,20 @@
 -- The ids in bytes, one after another, and how many bytes are taken. Assumes nothing.
-use mathlib.Core.Path.{◌≡◌, refl, ap, ap₂, ◌∙◌}
+use mathlib.Core.Path.{◌≡◌, refl, sym, ap, ap₂, ◌∙◌}
 use mathlib.Core.Bool.{Bool, cond}
 use mathlib.Core.List.{List, [], ◌∷◌}
 use Prim.Native.Nat.{ℕ, zero, suc, ◌+◌, ◌-◌, ◌*◌, ◌/◌, ◌≤◌, ◌<◌}
 use native.Mathlib.Omega.{arith}
 use lib.ListN.{length, take, drop, length-drop}
 use lib.Seq.{drop-drop}
-use Rattle.wire.specs.Bytes.{little}
+use Rattle.wire.specs.Bytes.{little, front}
 use Rattle.wire.proofs.Digits.{little_of}
 use Rattle.window.specs.History.{Ids}
 use Rattle.widths.specs.Trial.{ids_within, ids_of, recorded, bad_ids, counted_of, trial_of}
-use Rattle.widths.specs.declared.Tried.TheVariants.{Refused}
+use Rattle.std.specs.Prelude.{Ok, Err, map}
+use Rattle.std.specs.Simd.{first_chunks}
+use Rattle.std.proofs.lemmas.List.{length-take-le, take_all}
+use Rattle.wire.proofs.Fronts.{front_whole}
+use Rattle.widths.specs.declared.Refusal.TheVariants.{BadIds}
 
 -- four bytes more are an id, and fewer are none
 ids_more : (bytes : List ℕ) → 4 ≤ length bytes → ids_of bytes ≡ little (take 4 bytes) ∷ ids_of (drop 4 bytes)
@@ -34,6 +38,26 @@ pub ids_length : (bytes : List ℕ) → length (ids_of bytes) ≡ length bytes /
 unfolding ids_of
 ids_length bytes = within_length (length bytes / 4) bytes
 
+-- the ids are those of the chunks of four bytes
+abbrev pub id_in : List ℕ → ℕ
+id_in chunk = little (front 4 chunk)
+
+chunk_id : (bytes : List ℕ) → 4 ≤ length bytes → little (take 4 bytes) ≡ id_in (take 4 bytes)
+chunk_id bytes h =
+    let l = length-take-le 4 bytes h in
+    ap little (sym (front_whole 4 (take 4 bytes) (omega (arith, l)) ∙ take_all 4 (take 4 bytes) (omega (arith, l))))
+
+pub within_chunks : (count : ℕ) (bytes : List ℕ) → 4 * count ≤ length bytes → ids_within count bytes ≡ map id_in (first_chunks 4 count bytes)
+unfolding ids_within
+within_chunks zero bytes h = refl
+within_chunks (suc count) bytes h =
+    let l = length-drop 4 bytes in
+    ap₂ (λ (x : ℕ) (xs : List ℕ). x ∷ xs) (chunk_id bytes (omega arith)) (within_chunks count (drop 4 bytes) (omega (arith, l)))
+
+pub ids_chunks : (bytes : List ℕ) → ids_of bytes ≡ map id_in (first_chunks 4 (length bytes / 4) bytes)
+unfolding ids_of
+ids_chunks bytes = within_chunks (length bytes / 4) bytes (omega arith)
+
 -- recorded ids are read back
 pub recorded_length : (ids : List ℕ) → length (recorded ids) ≡ 4 * length ids
 recorded_length [] = refl
@@ -52,6 +76,6 @@ ids_on bytes at h =
     ∙ ap (λ (rest : List ℕ). little (take 4 (drop at bytes)) ∷ ids_of rest) (drop-drop 4 at bytes)
 
 -- the number of bytes decides whether they are counted
-pub decided : (bytes : List ℕ) (b : Bool) → bad_ids (length bytes) ≡ b → trial_of bytes ≡ cond b (Refused 28) (counted_of (ids_of bytes))
+pub decided : (bytes : List ℕ) (b : Bool) → bad_ids (length bytes) ≡ b → trial_of bytes ≡ cond b (Err BadIds) (Ok (counted_of (ids_of bytes)))
 unfolding trial_of
-decided bytes b e = ap (λ (x : Bool). cond x (Refused 28) (counted_of (ids_of bytes))) e
+decided bytes b e = ap (λ (x : Bool). cond x (Err BadIds) (Ok (counted_of (ids_of bytes)))) e

@@ -1,5 +1,5 @@
 -- What numbers of marks make of ids recorded from one encrypted sender (K5). Assumes nothing.
-use Rattle.std.specs.Prelude.{ℕ, zero, suc, ◌+◌, ◌/◌, ◌%◌, ◌≤◌, ◌<◌, max, ◌≡◌, Bool, true, false, cond, not, ◌&&◌, ◌||◌, List, [], ◌∷◌, ◌++◌, eqb, ltb, length, take, drop}
+use Rattle.std.specs.Prelude.{ℕ, zero, suc, ◌+◌, ◌/◌, ◌%◌, ◌≤◌, ◌<◌, max, ◌≡◌, Bool, true, false, cond, not, ◌&&◌, ◌||◌, Result, Ok, Err, List, [], ◌∷◌, ◌++◌, eqb, ltb, length, take, drop}
 use Rattle.wire.specs.Bytes.{little, little_bytes}
 use Rattle.window.specs.Rule.{accepts, step}
 use Rattle.window.specs.Windows.{late_by}
@@ -9,7 +9,8 @@ use Rattle.window.specs.declared.Verdict.{Verdict}
 use Rattle.window.specs.declared.Verdict.TheVariants.{New, Duplicate}
 use Rattle.widths.specs.declared.Tally.{Tally}
 use Rattle.widths.specs.declared.Tried.{Tried}
-use Rattle.widths.specs.declared.Tried.TheVariants.{Counted, Refused}
+use Rattle.widths.specs.declared.Refusal.{Refusal}
+use Rattle.widths.specs.declared.Refusal.TheVariants.{BadIds}
 
 -- ---- the ids
 
@@ -119,14 +120,18 @@ without_lost B W w ps (id ∷ ids) = unless_lost (ltb w (late_by B ps id)) (verd
 
 -- ---- the trial
 
+-- the number of a refusal
+abbrev pub number : Refusal → ℕ
+number BadIds = 28
+
 -- 28: the number of bytes is not a multiple of 4, or above 65,536
 abbrev pub bad_ids : ℕ → Bool
 bad_ids len = not (eqb (len % 4) 0) || ltb 65536 len
 
 -- the three tallies and the least number
 abbrev pub counted_of : List ℕ → Tried
-counted_of ids = Counted (tally_of 15 ids) (tally_of 31 ids) (tally_of 63 ids) (least_of ids)
+counted_of ids = record { few = tally_of 15 ids; more = tally_of 31 ids; most = tally_of 63 ids; least = least_of ids }
 
 -- what a trial answers
-unfoldable pub trial_of : List ℕ → Tried
-trial_of bytes = cond (bad_ids (length bytes)) (Refused 28) (counted_of (ids_of bytes))
+unfoldable pub trial_of : List ℕ → Result Tried Refusal
+trial_of bytes = cond (bad_ids (length bytes)) (Err BadIds) (Ok (counted_of (ids_of bytes)))

@@ -49,7 +49,7 @@ cond_bit : (b : Bool) → eqb (cond b 1 0 % 2) 1 ≡ b
 cond_bit true = refl
 cond_bit false = refl
 
-cond_le : (b : Bool) (p : ℕ) → cond b p 0 ≤ p
+pub cond_le : (b : Bool) (p : ℕ) → cond b p 0 ≤ p
 cond_le true p = omega arith
 cond_le false p = omega arith
 

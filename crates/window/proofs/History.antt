@@ -1,6 +1,6 @@
 -- The history of one row, over B and W: a row that shows a list goes on showing it, and gives the verdicts that the rule gives on the full list.
 -- Assumes nothing.
-use Rattle.std.proofs.Common.{◌≡◌, ℕ, suc, ◌+◌, ◌-◌, ◌%◌, ◌^◌, ◌<◌, Bool, true, false, List, [], ◌∷◌, sym, refl, ap, ◌∙◌, true≢false, mod-eq_of_lt, arith, pow_pos}
+use Rattle.std.proofs.Common.{◌≡◌, ℕ, suc, ◌+◌, ◌-◌, ◌%◌, ◌^◌, ◌<◌, Bool, true, false, Option, Some, None, List, [], ◌∷◌, sym, refl, ap, ◌∙◌, true≢false, mod-eq_of_lt, arith, pow_pos}
 use mathlib.Core.Path.{subst⁻¹}
 use native.Mathlib.Nat.{zero-mod}
 use Rattle.window.specs.Rule.{member, greatest, position_after, accepts, step, accepted, marks_number}
@@ -40,9 +40,9 @@ judged_shows B W row ps id s =
     subst⁻¹ (λ (r : Rolled). Shows W r.row (step B W ps id)) (judged_hears B W row ps id)
     (go (heard_by B W ps id) (step B W ps id) (shows_on B W (window_of row) ps id s))
   where
-    go : (heard : Heard) (qs : List ℕ) → ShowsIn W (window_after (window_of row) heard) qs → Shows W (rolled_by row heard).row qs
-    go (Heard.New late h m) qs s = s
-    go Heard.Duplicate qs s = s
+    go : (heard : Option Heard) (qs : List ℕ) → ShowsIn W (window_after (window_of row) heard) qs → Shows W (rolled_by row heard).row qs
+    go (Some heard) qs s = s
+    go None qs s = s
 
 -- is the verdict `New`?
 abbrev pub heard_new : Verdict → Bool

@@ -8,7 +8,7 @@ pub use Rattle.window.proofs.History.{full_list}
 -- A row in use stays in use under its name.
 pub use Rattle.window.proofs.Rows.{stays_in_use}
 -- Only one outcome fits each public contract.
-pub use Rattle.window.proofs.Outcomes.{one_open, one_rolled, one_roll}
+pub use Rattle.window.proofs.Outcomes.{one_heard, one_window_from, one_open, one_rolled, one_roll}
 use Rattle.std.proofs.Common.{◌≡◌, ℕ, suc, ◌+◌, ◌-◌, ◌*◌, ◌%◌, ◌^◌, ◌<◌, ◌≤◌, Bool, true, false, cond, not, List, [], ◌∷◌, sym, refl, ap, ◌∙◌, subst, true≢false, le_trans, le_refl, arith, eq-eqb, ne_eqb}
 use mathlib.Core.Path.{subst⁻¹}
 use native.Mathlib.Decide.{dec_le}

@@ -1,14 +1,13 @@
 -- The laws at a row, over B and W: what it stands for, and what rolling it can come to. Assumes nothing.
-use Rattle.std.proofs.Common.{◌≡◌, ℕ, suc, ◌+◌, ◌-◌, ◌%◌, ◌^◌, ◌<◌, ◌≤◌, Bool, true, false, cond, eqb, List, [], refl, ap, ◌∙◌, ap₂, arith}
+use Rattle.std.proofs.Common.{◌≡◌, ℕ, suc, ◌+◌, ◌-◌, ◌%◌, ◌^◌, ◌<◌, ◌≤◌, Bool, true, false, cond, eqb, Option, Some, None, List, [], refl, ap, ◌∙◌, ap₂, arith}
 use mathlib.Core.Path.{subst⁻¹}
 use Rattle.window.specs.Rule.{member, greatest, accepts, step, marks_number}
 use Rattle.window.specs.Rows.{window_of, list_of, taken, again, judged, rolled_at, marks_held, behind_plain, behind_encrypted, behind_of, rolled_of}
-use Rattle.window.specs.Windows.{list_in, late_by, heard_by, heard_at}
+use Rattle.window.specs.Windows.{list_in, late_by, heard_as, heard_by, heard_at}
 use Rattle.window.specs.History.{Distinct}
 use Rattle.window.specs.declared.Row.{Row}
 use Rattle.window.specs.declared.Rolled.{Rolled}
 use Rattle.window.specs.declared.windows.Heard.{Heard}
-use Rattle.window.specs.declared.windows.Heard.TheVariants.{New, Duplicate}
 use Rattle.window.proofs.Bits.{number_lt}
 use Rattle.window.proofs.Lists.{marked_out, marked_distinct}
 use Rattle.window.proofs.Positions.{Fits}
@@ -102,9 +101,9 @@ stays_in_use row id u =
 -- ---- a row and its window
 
 -- a row by what an id is to its window
-abbrev pub rolled_by : Row → Heard → Rolled
-rolled_by row (New late h m) = taken row h m
-rolled_by row Duplicate = again row
+abbrev pub rolled_by : Row → Option Heard → Rolled
+rolled_by row (Some heard) = taken row heard.highest heard.marks
+rolled_by row None = again row
 
 -- rolling a row by a list is hearing by it
 pub judged_hears : (B W : ℕ) (row : Row) (ps : List ℕ) (id : ℕ) → judged W row (accepts B W ps id) (step B W ps id) ≡ rolled_by row (heard_by B W ps id)
@@ -114,7 +113,7 @@ judged_hears B W row ps id = go (accepts B W ps id)
     qs : List ℕ
     qs = step B W ps id
 
-    go : (b : Bool) → judged W row b qs ≡ rolled_by row (cond b (New (late_by B ps id) (greatest qs % 2 ^ 32) (marks_number W qs)) Duplicate)
+    go : (b : Bool) → judged W row b qs ≡ rolled_by row (cond b (Some (heard_as (late_by B ps id) (greatest qs % 2 ^ 32) (marks_number W qs))) None)
     go true = refl
     go false = refl
 

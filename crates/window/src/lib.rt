@@ -5,12 +5,12 @@
 mod windows;
 
 ghost use Rattle.std.specs.Prelude.{◌≡◌};
-ghost use Rattle.window.specs.Rows.{again, behind_of, opened, rolled_of, taken};
+ghost use Rattle.window.specs.Rows.{again, behind_of, opened, rolled_of, taken, window_of};
 
 pub use windows::{Heard, Window};
 
 // What an arriving id is: new, as far as its row can tell; or heard before, or too far behind to tell.
-#[derive(Clone, Copy)]
+#[derive(Clone, Copy, Debug, PartialEq, Eq)]
 pub enum Verdict {
     New,
     Duplicate,
@@ -23,7 +23,10 @@ pub enum Verdict {
 //
 // In a row in use bit k - 1 of the marks says whether the id k below the highest was accepted, and `highest` itself was.
 // Bit 15 stands for no mark: it counts as clear, and is clear once the row changes. A row not in use says nothing of ids.
-#[derive(Clone, Copy)]
+// It holds the fields of a `Window` and not one, since its marks are 16 bits, as they are saved. `used` is a flag and no `Option` round the
+// others, since these count without it: `row_at` of `table_rows` promises them as the words have them, and a first id takes the row under its
+// name (`gateway_first_under_its_name`).
+#[derive(Clone, Copy, Debug, PartialEq, Eq)]
 pub struct Row {
     pub used: bool,
     pub node: u64,
@@ -32,8 +35,8 @@ pub struct Row {
     pub marks: u16,
 }
 
-// The verdict on an arriving id, and the row after it.
-#[derive(Clone, Copy)]
+// The verdict on an arriving id, and the row after it. No `Option<Row>`: `rolled_of` gives a duplicate's row too (`again`).
+#[derive(Clone, Copy, Debug, PartialEq, Eq)]
 pub struct Rolled {
     pub verdict: Verdict,
     pub row: Row,
@@ -71,6 +74,7 @@ impl Row {
     }
 
     // How far behind the highest an id may lie: a row whose key id is not 0 is encrypted.
+    #[tactic(auto, unfolding(crate::specs::Rows::behind_of))]
     fn behind(key: u16) -> u32
         ensures { result ≡ behind_of key }
     {
@@ -85,11 +89,12 @@ impl Row {
     fn taken(self, highest: u32, marks: u16) -> Rolled
         ensures { result ≡ taken self highest marks }
     {
-        let mut row = Row::open(self.node, self.key, highest);
-        row.marks = marks;
         Rolled {
             verdict: Verdict::New,
-            row,
+            row: Row {
+                marks,
+                ..Row::open(self.node, self.key, highest)
+            },
         }
     }
 
@@ -107,24 +112,32 @@ impl Row {
     pub fn rolled(self, id: u32) -> Rolled
         ensures { result ≡ rolled_of self id }
     {
-        let window = Window {
-            used: self.used,
-            highest: self.highest,
-            marks: self.marks as u64,
-        };
-        match windows::heard_within(window, Row::behind(self.key), Row::MARKS, id) {
-            Heard::New(_, highest, marks) => self.taken(highest, marks as u16),
-            Heard::Duplicate => self.again(),
+        match Window::from(self).heard_within(Row::behind(self.key), Row::MARKS, id) {
+            // The marks of a row are 15 bits, so the cast loses none; `From` does not narrow.
+            Some(heard) => self.taken(heard.highest, heard.marks as u16),
+            None => self.again(),
         }
+    }
+
+    // Rolls a lent row forward by one message where it stands, and gives the verdict: the row is then what `rolled` makes of it.
+    pub fn roll(&mut self, id: u32) -> Verdict
+        ensures { (result ≡ (rolled_of self.old id).verdict) × (self.new ≡ (rolled_of self.old id).row) }
+    {
+        let after = self.rolled(id);
+        *self = after.row;
+        after.verdict
     }
 }
 
-// Rolls a lent row forward by one message where it stands, and gives the verdict: the row is then what `rolled` makes of it.
-pub fn roll(row: &mut Row, id: u32) -> Verdict
-    ensures { (result ≡ (rolled_of row.old id).verdict) × (row.new ≡ (rolled_of row.old id).row) }
-{
-    let before = *row;
-    let after = before.rolled(id);
-    *row = after.row;
-    after.verdict
+// The window of a row: all but its name.
+impl From<Row> for Window {
+    ghost from_gives = { λ row r. r ≡ window_of row };
+
+    fn from(row: Row) -> Window {
+        Window {
+            used: row.used,
+            highest: row.highest,
+            marks: u64::from(row.marks),
+        }
+    }
 }

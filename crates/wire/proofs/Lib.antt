@@ -1,4 +1,5 @@
 pub mod Fronts
+pub mod Library
 pub mod Digits
 pub mod Places
 pub mod Runs

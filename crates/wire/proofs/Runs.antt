@@ -1,13 +1,11 @@
 -- A run of stores, and runs one after another. `sets l i vs` is l with vs from index i on. Assumes nothing.
 use Prim.Native.Nat.{ℕ, suc, ◌+◌, ◌≤◌}
-use mathlib.Core.Path.{◌≡◌, sym, ap, ◌∙◌}
+use mathlib.Core.Path.{◌≡◌, ap, ◌∙◌}
 use mathlib.Core.List.{List, [], ◌∷◌, ◌++◌}
 use native.Mathlib.Omega.{arith}
 use native.Mathlib.Nat.{add-zero, zero-add}
 use lib.ListN.{length, drop, set, length-append}
 use lib.Seq.{sets, sets-eq}
-use Rattle.wire.specs.Bytes.{little_bytes, big_bytes}
-use Rattle.wire.proofs.Digits.{length_little, length_big}
 
 -- a run that starts where another ends
 pub sets_then : (l : List ℕ) (i : ℕ) (vs ws : List ℕ) (j : ℕ) → j ≡ i + length vs → sets (sets l i vs) j ws ≡ sets l i (vs ++ ws)
@@ -23,25 +21,10 @@ pub record Wrote (old : List ℕ) (start : ℕ) (b : List ℕ) (at : ℕ) (bytes
   pub buffer : b ≡ sets old start bytes
   pub place : at ≡ start + length bytes
 
--- the first run, and one more
-pub begun : {b : List ℕ} {at : ℕ} (old : List ℕ) (start : ℕ) (vs : List ℕ) (k : ℕ) → length vs ≡ k → (at ≡ start + k) × (b ≡ sets old start vs) → Wrote old start b at vs
-begun old start vs k e p = record { buffer = p.1; place = p.0 ∙ ap (λ (n : ℕ). start + n) (sym e) }
-
+-- one run more
 pub onward : {old b b' bytes : List ℕ} {start at at' : ℕ} (vs : List ℕ) (k : ℕ) → length vs ≡ k → Wrote old start b at bytes → (at' ≡ at + k) × (b' ≡ sets b at vs) → Wrote old start b' at' (bytes ++ vs)
 onward {old} {bytes = bytes} {start} {at = at} vs k e w p =
     record {
       buffer = p.1 ∙ ap (λ (l : List ℕ). sets l at vs) w.buffer ∙ sets_then old start bytes vs at w.place;
       place = let l = length-append bytes vs in let q = w.place in let r = p.0 in omega arith;
     }
-
-pub begun_little : {b : List ℕ} {at : ℕ} (old : List ℕ) (start k x : ℕ) → (at ≡ start + k) × (b ≡ sets old start (little_bytes k x)) → Wrote old start b at (little_bytes k x)
-begun_little old start k x = begun old start (little_bytes k x) k (length_little k x)
-
-pub and_little : {old b b' bytes : List ℕ} {start at at' : ℕ} (k x : ℕ) → Wrote old start b at bytes → (at' ≡ at + k) × (b' ≡ sets b at (little_bytes k x)) → Wrote old start b' at' (bytes ++ little_bytes k x)
-and_little k x = onward (little_bytes k x) k (length_little k x)
-
-pub and_big : {old b b' bytes : List ℕ} {start at at' : ℕ} (k x : ℕ) → Wrote old start b at bytes → (at' ≡ at + k) × (b' ≡ sets b at (big_bytes k x)) → Wrote old start b' at' (bytes ++ big_bytes k x)
-and_big k x = onward (big_bytes k x) k (length_big k x)
-
-pub fronted : {b : List ℕ} {at : ℕ} (old vs : List ℕ) (k : ℕ) → length vs ≡ k → (at ≡ k) × (b ≡ sets old 0 vs) → Wrote old 0 b at vs
-fronted old vs k e p = record { buffer = p.1; place = let q = p.0 in omega arith }

@@ -1,2 +1,3 @@
 -- What the contracts of `wire` cite.
 pub mod Bytes
+pub mod Lengths

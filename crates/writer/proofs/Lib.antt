@@ -1,3 +1,4 @@
-pub mod Maybe
+pub mod Fields
 pub mod Stored
 pub mod Bare
+pub mod Absent

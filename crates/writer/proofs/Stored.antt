@@ -1,20 +1,19 @@
 -- What storing a value asks for where writing answers with a length, and what the parts leave in the buffer. Assumes nothing.
+use Rattle.std.specs.Prelude.{Result, Ok}
 use Prim.Native.Nat.{ℕ, ◌+◌, ◌≤◌}
-use mathlib.Core.Path.{◌≡◌, ap, ◌∙◌}
-use mathlib.Core.List.{List, ◌++◌}
+use mathlib.Core.Path.{◌≡◌, refl, ap, ◌∙◌}
+use mathlib.Core.List.{List, ◌++◌, append_assoc}
 use native.Mathlib.Omega.{arith}
 use lib.ListN.{length, drop}
-use lib.Seq.{sets}
+use lib.Seq.{drop-drop}
 use Rattle.message.specs.Layout.{head_length}
 use Rattle.message.specs.Value.{head_bytes, bytes_of}
 use Rattle.message.specs.Answers.{buffer_after}
 use Rattle.message.specs.declared.value.Message.{Message}
-use Rattle.message.specs.declared.answers.Writing.{Writing}
-use Rattle.message.specs.declared.answers.Writing.TheVariants.{Written}
-use Rattle.message.proofs.Lengths.{length_bytes, total_is}
+use Rattle.message.specs.declared.answers.Refusal.{Refusal}
+use Rattle.message.proofs.Lengths.{total_is}
 use Rattle.message.proofs.Logic.{so}
 use Rattle.message.proofs.Low.{version_low, encrypt_low}
-use Rattle.wire.proofs.Runs.{sets_front}
 use Rattle.judge.specs.Writing.{write_of}
 use Rattle.judge.proofs.Clear.{written}
 
@@ -22,11 +21,10 @@ pub record Storable (m : Message) (payload check : List ℕ) (room n : ℕ) : Ty
   pub version : m.version ≤ 2
   pub encrypt : m.encrypt ≤ 1
   pub parts : head_length m + length payload + length check ≡ n
-  pub whole : length (bytes_of m payload check) ≡ n
   pub fits : n ≤ room
-  pub answer : Written n ≡ write_of m payload check room
+  pub answer : Ok n ≡ write_of m payload check room
 
-pub storable : {m : Message} {payload check : List ℕ} {room n : ℕ} {answer : Writing} → answer ≡ write_of m payload check room → answer ≡ Written n
+pub storable : {m : Message} {payload check : List ℕ} {room n : ℕ} {answer : Result ℕ Refusal} → answer ≡ write_of m payload check room → answer ≡ Ok n
     → Storable m payload check room n
 storable {m} {payload} {check} {room} {n} by e =
     let (long, k) = written m payload check room n (so by e) in
@@ -36,18 +34,19 @@ storable {m} {payload} {check} {room} {n} by e =
       version = version_low _ k.version;
       encrypt = encrypt_low _ k.encrypt;
       parts = omega (arith, total_is m payload);
-      whole = length_bytes m payload check c ∙ long;
       fits = omega arith;
       answer = so e by;
     }
 
--- head, payload and check as one run from the front
-pub run_lands : {m : Message} {payload check : List ℕ} {n : ℕ} {buffer : List ℕ} (old : List ℕ) → Storable m payload check (length old) n
-    → buffer ≡ sets old 0 (head_bytes m ++ payload ++ check) → buffer ≡ buffer_after (Written n) (bytes_of m payload check) old
+-- head, payload and check one after the other, before what was not touched
+pub run_lands : {m : Message} {payload check a b c r s rest : List ℕ} {n h k : ℕ} (old : List ℕ) → Storable m payload check (length old) n
+    → h ≡ head_length m → k ≡ length check → r ≡ drop h old → s ≡ drop (length payload) r → rest ≡ drop k s
+    → a ≡ head_bytes m → b ≡ payload → c ≡ check
+    → a ++ (b ++ (c ++ rest)) ≡ buffer_after (Ok n) (bytes_of m payload check) old
 unfolding bytes_of
-run_lands {m} {payload} {check} old s b =
-    let f = s.fits in
-    let w = s.whole in
-    b
-    ∙ sets_front old (head_bytes m ++ payload ++ check) (omega arith)
-    ∙ ap (λ (k : ℕ). head_bytes m ++ payload ++ check ++ drop k old) w
+run_lands {m} {payload} {check} {n = n} {h} {k} old w e f p q t first second third =
+    let after : drop k (drop (length payload) (drop h old)) ≡ drop n old =
+    drop-drop k (length payload) (drop h old)
+    ∙ drop-drop (length payload + k) h old
+    ∙ ap (λ (i : ℕ). drop i old) (let l = w.parts in omega arith) in
+    rw (first, second, third, t, q, p, after) (simp append_assoc refl)

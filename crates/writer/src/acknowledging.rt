@@ -1,36 +1,33 @@
 // The standalone acknowledgement of a message at the front of a buffer.
-ghost use Rattle.std.specs.Prelude.{◌≡◌, ◌+◌, ◌≤◌, length};
-ghost use Rattle.std.proofs.lemmas.List.Edits.{sets};
-ghost use Rattle.message.specs.Layout.{only};
+ghost use Rattle.std.specs.Prelude.{◌≡◌, length};
+ghost use Rattle.wire.specs.Bytes.{placed};
 ghost use Rattle.message.specs.Answers.{buffer_after};
 ghost use Rattle.reply.specs.Acknowledgement.{acknowledgement_of, zeros, acknowledgement_bytes, acknowledging};
 
-use crate::{stores, writing};
-use message::{Message, Writing, layout};
+use crate::writing;
+use message::{Message, Refusal, layout};
+use reply::Reply;
 
-// Blank check bytes, for the module to fill, if there are any: 20, stored as a zero of 4 bytes and two of 8.
-fn store_blank(present: bool, out: &mut [u8], at: usize)
-    requires { at + only present 20 ≤ length out.old }
-    ensures { out.new ≡ sets out.old at (zeros (only present 20)) }
+// Blank check bytes, for the module to fill, into the first bytes. Where the slice has fewer, it stays as it was.
+#[tactic(auto, using(wire::proofs::Fronts::placed_whole, wire::proofs::Fronts::placed_short))]
+fn put_blank(out: &mut [u8])
+    ensures { out.new ≡ placed (zeros 20) out.old }
 {
-    let a = stores::store32(present, out, at, 0);
-    let b = stores::store_node(present, out, a, 0);
-    stores::store_node(present, out, b, 0);
+    if let Some(check) = out.first_chunk_mut::<{ layout::CHECK }>() {
+        *check = [0; layout::CHECK];
+    }
 }
 
 // The acknowledgement of `m` at the front of a buffer, from the own node to the sender, under its own
 // id; the buffer's other bytes stay as they were. Or the refusal, and all of the buffer as it was.
-pub fn acknowledge(own: u64, sender: u64, id: u32, m: Message, out: &mut [u8]) -> Writing
-    ensures { (result ≡ acknowledging (acknowledgement_of own sender id m) (length out.old)) × (out.new ≡ buffer_after result (acknowledgement_bytes (acknowledgement_of own sender id m)) out.old) }
+pub fn acknowledge(reply: Reply, m: Message, out: &mut [u8]) -> Result<usize, Refusal>
+    ensures { (result ≡ acknowledging (acknowledgement_of reply.own reply.sender reply.id m) (length out.old)) × (out.new ≡ buffer_after result (acknowledgement_bytes (acknowledgement_of reply.own reply.sender reply.id m)) out.old) }
 {
-    let value = reply::acknowledgement(own, sender, id, m);
-    let answer = reply::judged(value, out.len());
-    match answer {
-        Writing::Written(n) => {
-            let end = writing::store_head(out, value);
-            store_blank(value.encrypt == layout::ENCRYPTED, out, end);
-            Writing::Written(n)
-        }
-        Writing::Refused(refusal) => Writing::Refused(refusal),
-    }
+    let value = reply.acknowledgement(m);
+    let total = reply::judged(value, out.len())?;
+    let (head, rest) = out.split_at_mut(value.head_length());
+    writing::store_head(head, value);
+    let (check, _) = rest.split_at_mut(value.check_length());
+    put_blank(check);
+    Ok(total)
 }

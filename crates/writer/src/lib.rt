@@ -3,9 +3,8 @@
 #![tactic(auto)]
 
 mod acknowledging;
-mod stores;
 mod writing;
 
 pub use acknowledging::acknowledge;
-pub use reply::would_acknowledge;
+pub use reply::Reply;
 pub use writing::write;

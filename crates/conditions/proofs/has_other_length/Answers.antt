@@ -10,4 +10,4 @@ pub returns : goal.returns
 returns c =
     let v = c.args in
     let long = c.if-packet-header.false in
-    simp (le-ltb _ _ long, c.get_big16-given.ensures ∙ ap big (place_get v.packet.now v.at 2 (omega (arith, c.requires.0, long))))
+    simp (le-ltb _ _ long, c.from.ensures ∙ c.get_big16-given.ensures ∙ ap big (place_get v.packet.now v.at 2 (omega (arith, c.requires.0, long))))

@@ -1,16 +1,14 @@
 -- The last line, from the front on. Assumes nothing.
-use Prim.Native.Nat.{◌≤◌}
+use mathlib.Core.Path.{refl}
 use native.Mathlib.Omega.{arith}
-use lib.ListN.{length}
-use Rattle.lines.specs.Lines.{last_text}
-use Rattle.lines.proofs.Texts.{last_stored, counted}
+use Rattle.std.proofs.Common.{rules}
+use Rattle.lines.specs.Lines.{end_word, closing, last_text}
+use Rattle.lines.proofs.Texts.{closing_most, at_front}
 use Rattle.lines.proofs.last.Goals as goal
 
-pub returns-clause-text : goal.returns-clause-text
-returns-clause-text c =
-    let a = c.args in
-    let h : 72 ≤ length a.out.now = omega arith in
-    last_stored a.out.now a.left h c.closing.ensures
-
-pub returns-clause-count : goal.returns-clause-count
-returns-clause-count c = (counted c.args.out.now (last_text c.args.left) (returns-clause-text c)).1
+pub returns : goal.returns
+unfolding last_text
+returns c =
+    let m = closing_most end_word c.args.left in
+    let f = at_front (closing end_word c.args.left) refl (omega arith) c.closing.ensures (search rules) in
+    record { text = f.0; count = f.1 }

@@ -16,8 +16,8 @@ unfolding row_in
 returns c =
     let bytes = c.args.bytes.now in
     let fits = c.if-bytes-lt-RECORD.false in
-    let node = c.get_node.ensures ∙ ap big (place_get bytes 2 8 (omega arith)) in
-    let key = c.get16.ensures ∙ ap little (place_get bytes 10 2 (omega arith)) in
-    let highest = c.get32.ensures ∙ ap little (place_get bytes 12 4 (omega arith)) in
-    let marks = c.get16-2.ensures ∙ ap little (place_get bytes 16 2 (omega arith)) in
+    let node = c.get.ensures ∙ ap big (place_get bytes 2 8 (omega arith)) in
+    let key = c.get-2.ensures ∙ ap little (place_get bytes 10 2 (omega arith)) in
+    let highest = c.get-3.ensures ∙ ap little (place_get bytes 12 4 (omega arith)) in
+    let marks = c.get-4.ensures ∙ ap little (place_get bytes 16 2 (omega arith)) in
     (λ i. record { used = true; node = node i; key = key i; highest = highest i; marks = marks i }) ∙ sym (front_row_lem bytes fits)

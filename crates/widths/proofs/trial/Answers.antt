@@ -1,57 +1,54 @@
 -- One pass, and what it says of each number of marks: the tallies, and the least. Assumes nothing.
-use mathlib.Core.Path.{◌≡◌, refl, sym, ap, ◌∙◌}
-use mathlib.Core.Bool.{true, false}
-use mathlib.Core.List.{List}
-use Prim.Native.Nat.{ℕ, ◌+◌, max}
-use native.Mathlib.Omega.{arith}
+use Rattle.std.proofs.Common.{◌≡◌, ℕ, ◌+◌, ◌-◌, Ok, true, false, List, sym, ◌∙◌, arith}
 use Rattle.widths.specs.Trial.{ids_of, verdicts_with, new_among}
 use Rattle.widths.specs.Runs.{Passed}
 use Rattle.widths.specs.declared.Run.{Run}
-use Rattle.widths.specs.declared.Tried.TheVariants.{Counted}
 use Rattle.widths.proofs.Least.{least_is}
-use Rattle.widths.proofs.Recorded.{ids_length, decided}
-use Rattle.widths.proofs.Passed.{past_found, beyond_found, found_most, told}
+use Rattle.widths.proofs.Recorded.{decided}
+use Rattle.widths.proofs.Passed.{past_found, beyond_found, Tells, told}
 use Rattle.widths.proofs.trial.Goals as goal
 
--- the ids that 63 marks found new, less what so many fewer would have lost, are those that they find new
-few : (ids : List ℕ) (run : Run) → Passed 15 31 ids run → new_among (verdicts_with 15 ids) + run.past ≡ run.new
-few ids run p = past_found 15 31 ids run p (omega arith)
+-- the ids that 63 marks found new are those that fewer find, and what these would have lost
+module _ (bytes : List ℕ) {run : Run} (p : Passed 15 31 (ids_of bytes) run) where
+  past : new_among (verdicts_with 15 (ids_of bytes)) + run.past ≡ run.found
+  past = past_found 15 31 (ids_of bytes) run p (omega arith)
 
-more : (ids : List ℕ) (run : Run) → Passed 15 31 ids run → new_among (verdicts_with 31 ids) + run.beyond ≡ run.new
-more ids run p = beyond_found 15 31 ids run p (omega arith)
+  beyond : new_among (verdicts_with 31 (ids_of bytes)) + run.beyond ≡ run.found
+  beyond = beyond_found 15 31 (ids_of bytes) run p (omega arith)
+
+  few : Tells 15 bytes (run.found - run.past)
+  few = told 15 bytes (run.found - run.past) (omega (arith, past))
+
+  more : Tells 31 bytes (run.found - run.beyond)
+  more = told 31 bytes (run.found - run.beyond) (omega (arith, beyond))
+
+  most : Tells 63 bytes run.found
+  most = told 63 bytes run.found p.found
 
 pub returns-then-len : goal.returns-then-len
 returns-then-len c = sym (decided c.args.ids.now true c.if-len.true)
 
 pub overflow_sub-run : goal.overflow_sub-run
-overflow_sub-run c = omega (arith, few _ _ c.pass-run.ensures)
+overflow_sub-run c = omega (arith, past c.args.ids.now c.pass-run.ensures)
 
-pub tallied-few-requires : goal.tallied-few-requires
-tallied-few-requires c =
-    let bytes = c.args.ids.now in
-    omega (arith, few _ _ c.pass-run.ensures, found_most 15 (ids_of bytes), ids_length bytes)
+pub tallied-requires : goal.tallied-requires
+tallied-requires c = (few c.args.ids.now c.pass-run.ensures).most
 
 pub overflow_sub-run-2 : goal.overflow_sub-run-2
-overflow_sub-run-2 c = omega (arith, more _ _ c.pass-run.ensures)
+overflow_sub-run-2 c = omega (arith, beyond c.args.ids.now c.pass-run.ensures)
 
-pub tallied-more-requires : goal.tallied-more-requires
-tallied-more-requires c =
-    let bytes = c.args.ids.now in
-    omega (arith, more _ _ c.pass-run.ensures, found_most 31 (ids_of bytes), ids_length bytes)
+pub tallied-requires-2 : goal.tallied-requires-2
+tallied-requires-2 c = (more c.args.ids.now c.pass-run.ensures).most
 
-pub tallied-most-requires : goal.tallied-most-requires
-tallied-most-requires c =
-    let bytes = c.args.ids.now in
-    omega (arith, c.pass-run.ensures.new, found_most 63 (ids_of bytes), ids_length bytes)
+pub tallied-requires-3 : goal.tallied-requires-3
+tallied-requires-3 c = (most c.args.ids.now c.pass-run.ensures).most
 
 pub returns : goal.returns
 returns c =
     let bytes = c.args.ids.now in
-    let ids : List ℕ = ids_of bytes in
-    let all = ids_length bytes in
     let p = c.pass-run.ensures in
-    let low = c.tallied-few.ensures ∙ told 15 15 ids _ _ refl (omega (arith, few _ _ p)) (omega (arith, all)) in
-    let middle = c.tallied-more.ensures ∙ told 31 31 ids _ _ refl (omega (arith, more _ _ p)) (omega (arith, all)) in
-    let most = c.tallied-most.ensures ∙ told 63 63 ids _ _ refl p.new (omega (arith, all)) in
-    let least = c.greater.ensures ∙ ap (max 1) p.farthest ∙ sym (least_is ids) in
-    (λ i. Counted (low i) (middle i) (most i) (least i)) ∙ sym (decided bytes false c.if-len.false)
+    let low = c.tallied.ensures ∙ (few bytes p).tally in
+    let middle = c.tallied-2.ensures ∙ (more bytes p).tally in
+    let high = c.tallied-3.ensures ∙ (most bytes p).tally in
+    let least = c.max.ensures ∙ omega (arith, p.farthest, least_is (ids_of bytes)) in
+    (λ i. Ok (record { few = low i; more = middle i; most = high i; least = least i })) ∙ sym (decided bytes false c.if-len.false)

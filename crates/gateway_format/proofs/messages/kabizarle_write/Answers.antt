@@ -1,24 +1,19 @@
--- 14 where a place does not fit; else the number, the buffer and the length are those of writing the value. Assumes nothing.
-use mathlib.Core.Path.{refl, ap, ◌∙◌}
-use Rattle.message.specs.declared.value.Message.{Message}
-use Rattle.message.specs.Value.{bytes_of}
-use Rattle.message.specs.Answers.{buffer_after}
+-- 14 where a place does not fit; else the number is that of writing the value. Assumes nothing.
+use Rattle.std.specs.Prelude.{Err}
+use mathlib.Core.Path.{◌≡◌, ap, ◌∙◌}
+use lib.ListN.{length}
+use Rattle.message.specs.Answers.{number_in}
 use Rattle.message.proofs.Logic.{so}
-use Rattle.gateway_format.proofs.Answered.{written, unfit, fit, is_value}
+use Rattle.gateway_format.specs.Messages.{write_from}
+use Rattle.gateway_format.proofs.Answered.{unfit, fit}
+use Rattle.gateway_format.proofs.messages.kabizarle_write.Goals.{in-Some, in-None}
 use Rattle.gateway_format.proofs.messages.kabizarle_write.Goals as goal
 
--- the three clauses, each under its name
-by_clause : {A B C : Type 0} → A × (B × C) → record { result : A; buffer : B; written : C }
-by_clause p = record { result = p.0; buffer = p.1.0; written = p.1.1 }
-
-pub returns-in-Value : goal.returns-in-Value
-returns-in-Value c =
+pub returns-clause-result : goal.returns-clause-result
+returns-clause-result c =
     let a = c.args in
-    let d = c.write-answer.ensures in
-    let e = so c.in-Value.is c.load-loaded.ensures in
-    let s = c.settle.ensures in
-    by_clause (written _ _ _ _ _ _ _ _ (fit a.fields.now a.payload.now a.check.now _ _ _ e d.0) s.result
-    (d.1 ∙ ap (λ (m : Message). buffer_after c.write-answer.result (bytes_of m a.payload.now a.check.now) a.out.now) (is_value _ _ e)) s.written)
-
-pub returns-in-Unfit : goal.returns-in-Unfit
-returns-in-Unfit c = by_clause (written _ _ _ _ _ _ _ _ (unfit _ _ _ _ (so c.in-Unfit.is c.load-loaded.ensures)) refl refl refl)
+    let given : c.match-load.answer ≡ write_from a.fields.now a.payload.now a.check.now (length a.out.now) = elim c.match-load.branch [
+      | in-Some w ↦ w.answer-is ∙ fit a.fields.now a.payload.now a.check.now _ _ _ (so w.in-Some.is c.load.ensures) w.write-answer.ensures.0
+      | in-None w ↦ w.answer-is ∙ ap Err w.into.ensures ∙ unfit _ _ _ _ (so w.in-None.is c.load.ensures)
+    ] in
+    c.settle.ensures.result ∙ ap number_in given

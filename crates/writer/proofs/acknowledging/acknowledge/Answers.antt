@@ -1,43 +1,37 @@
--- By the acknowledgement's own order, which is that of writing it; then the head and the blank check are one run from the front. Assumes nothing.
-use Prim.Native.Nat.{ℕ}
-use mathlib.Core.List.{List, []}
-use mathlib.Core.Path.{refl, sym}
-use native.Mathlib.Nat.{add-zero}
+-- By the acknowledgement's own order, which is that of writing it; then the head and the blank check stand one after the other. Assumes nothing.
+use mathlib.Core.Path.{refl, ◌∙◌}
 use native.Mathlib.Omega.{arith}
-use Rattle.message.specs.Layout.{check_length, head_length}
-use Rattle.message.specs.Value.{head_bytes}
-use Rattle.message.specs.declared.value.Message.{Message}
-use Rattle.message.proofs.Lengths.{length_head}
+use Rattle.std.proofs.lemmas.Result.{err_from_is_err_and}
+use Rattle.message.specs.Layout.{check_length}
 use Rattle.message.proofs.Logic.{so}
-use Rattle.wire.proofs.Runs.{fronted, onward}
-use Rattle.reply.specs.Acknowledgement.{zeros}
 use Rattle.reply.proofs.Steps.{judged_is}
-use Rattle.writer.proofs.Bare.{length_zeros, bare_storable, lands}
+use Rattle.writer.proofs.Bare.{length_zeros, blank_field, bare_storable, parts_land}
 use Rattle.writer.proofs.acknowledging.acknowledge.Goals as goal
 
-pub store_head-end-requires : goal.store_head-end-requires
-store_head-end-requires c =
-    let s = bare_storable _ _ _ _ _ c.acknowledgement-value.ensures c.judged-answer.ensures c.in-Written.is in
-    let l = s.parts in
-    let f = s.fits in
-    (omega arith, s.version, s.encrypt)
+pub split_at_mut-head-requires : goal.split_at_mut-head-requires
+split_at_mut-head-requires c =
+    let s = bare_storable _ _ _ _ _ c.acknowledgement-value.ensures c.judged.ensures c.in_ok-total.was in
+    omega (arith, s.parts, s.fits, c.head_length.ensures.0)
 
-pub store_blank-requires : goal.store_blank-requires
-store_blank-requires c =
-    let s = bare_storable _ _ _ _ _ c.acknowledgement-value.ensures c.judged-answer.ensures c.in-Written.is in
-    let l = s.parts in
-    let f = s.fits in
-    omega (arith, length_zeros (check_length c.acknowledgement-value.result))
+pub split_at_mut-check-requires : goal.split_at_mut-check-requires
+split_at_mut-check-requires c =
+    let s = bare_storable _ _ _ _ _ c.acknowledgement-value.ensures c.judged.ensures c.in_ok-total.was in
+    omega (arith, s.parts, s.fits, length_zeros (check_length c.acknowledgement-value.result), c.head_length.ensures.0, c.check_length.ensures.0, c.split_at_mut-head.ensures.back_len)
 
-pub returns-in-Written : goal.returns-in-Written
-returns-in-Written c =
-    let value : Message = c.acknowledgement-value.result in
-    let old : List ℕ = c.args.out.now in
-    let s = bare_storable _ _ _ _ _ c.acknowledgement-value.ensures c.judged-answer.ensures c.in-Written.is in
-    let w1 = fronted old (head_bytes value) (head_length value) (length_head value) c.store_head-end.ensures in
-    let w2 = onward [] 0 refl w1 (sym (add-zero _), refl) in
-    let w3 = onward (zeros (check_length value)) (check_length value) (length_zeros (check_length value)) w2 (refl, c.store_blank.ensures) in
-    (so c.in-Written.is (judged_is _ _ _ _ _ c.acknowledgement-value.ensures c.judged-answer.ensures), lands old c.acknowledgement-value.ensures s w3.buffer)
+pub store_head-requires : goal.store_head-requires
+store_head-requires c =
+    let s = bare_storable _ _ _ _ _ c.acknowledgement-value.ensures c.judged.ensures c.in_ok-total.was in
+    (c.split_at_mut-head.ensures.front_len ∙ c.head_length.ensures.0, s.version, s.encrypt)
 
-pub returns-in-Refused : goal.returns-in-Refused
-returns-in-Refused c = (so c.in-Refused.is (judged_is _ _ _ _ _ c.acknowledgement-value.ensures c.judged-answer.ensures), refl)
+pub returns : goal.returns
+returns c =
+    let s = bare_storable _ _ _ _ _ c.acknowledgement-value.ensures c.judged.ensures c.in_ok-total.was in (
+      so c.in_ok-total.was (judged_is _ _ _ _ _ c.acknowledgement-value.ensures c.judged.ensures),
+      parts_land c.args.out.now c.acknowledgement-value.ensures s c.head_length.ensures.0 c.check_length.ensures.0 c.split_at_mut-head.ensures.back c.split_at_mut-check.ensures.back
+          c.store_head.ensures (blank_field _ _ (c.split_at_mut-check.ensures.front_len ∙ c.check_length.ensures.0) c.put_blank.ensures),
+    )
+
+pub returns-in_err-total : goal.returns-in_err-total
+returns-in_err-total c =
+    let p = err_from_is_err_and c.from_residual.result c.from_residual.ensures.1 in
+    rw (p.1, p.2) (so c.in_err-total.was (judged_is _ _ _ _ _ c.acknowledgement-value.ensures c.judged.ensures), refl)

@@ -1,33 +1,29 @@
--- The address fields, then by the kind of message the tunnel version or the exchange fields, as one run. Assumes nothing.
-use Prim.Native.Nat.{ℕ, ◌+◌}
-use mathlib.Core.Bool.{Bool, cond}
-use mathlib.Core.List.{◌++◌}
-use mathlib.Core.Path.{sym, ap, ◌∙◌}
-use native.Mathlib.Nat.{add_assoc}
+-- Each part is its field's bytes. Assumes nothing.
+use mathlib.Core.Bool.{true}
+use mathlib.Core.Path.{◌∙◌}
 use native.Mathlib.Omega.{arith}
-use lib.Seq.{sets}
-use Rattle.wire.specs.Bytes.{little_bytes}
-use Rattle.message.specs.Layout.{only, body_of}
-use Rattle.message.specs.Value.{address_bytes, exchange_bytes, head_bytes}
-use Rattle.message.proofs.Lengths.{length_address, length_exchange}
-use Rattle.wire.proofs.Runs.{fronted, and_little, onward}
+use Rattle.message.specs.Layout.{encrypted}
+use Rattle.message.specs.Value.{header_of, address_bytes, head_bytes}
+use Rattle.writer.proofs.Fields.{little_field, big_field, six}
 use Rattle.writer.proofs.writing.store_head.Goals as goal
 
-pub returns-then-m : goal.returns-then-m
-unfolding head_bytes
-returns-then-m c =
-    let a = c.args in
-    let m = a.m in
-    let w1 = fronted a.out.now (address_bytes m) (body_of m) (length_address m) c.store_address-at.ensures in
-    let w2 = and_little 1 1 w1 c.store8.ensures in
-    (omega (arith, ap {B = ℕ} (λ (b : Bool). cond b 1 (8 + only a.m.acknowledges 4)) c.if-m.true), w2.buffer ∙ ap (λ (b : Bool). sets a.out.now 0 (address_bytes m ++ cond b (little_bytes 1 1) (exchange_bytes m))) (sym c.if-m.true))
-
 pub returns : goal.returns
-unfolding head_bytes
+unfolding head_bytes address_bytes
 returns c =
-    let a = c.args in
-    let m = a.m in
-    let w1 = fronted a.out.now (address_bytes m) (body_of m) (length_address m) c.store_address-at.ensures in
-    let e = c.store_exchange.ensures in
-    let w2 = onward (exchange_bytes m) (8 + only m.acknowledges 4) (length_exchange m) w1 (e.0 ∙ add_assoc _ _ _, e.1) in
-    (omega (arith, ap {B = ℕ} (λ (b : Bool). cond b 1 (8 + only a.m.acknowledges 4)) c.if-m.false), w2.buffer ∙ ap (λ (b : Bool). sets a.out.now 0 (address_bytes m ++ cond b (little_bytes 1 1) (exchange_bytes m))) (sym c.if-m.false))
+    let m = c.args.m in
+    six
+    (little_field true 2 (header_of m) _ c.split_at_mut-header.ensures.front_len (rw c.header_of.ensures at c.put.ensures))
+    (little_field true 4 m.id _ c.split_at_mut-id.ensures.front_len c.put-2.ensures)
+    (big_field m.sourced 8 m.source _ (c.split_at_mut-source.ensures.front_len ∙ c.only_of.ensures.0) c.put-3.ensures)
+    (big_field m.destined 8 m.destination _ (c.split_at_mut-destination.ensures.front_len ∙ c.only_of-2.ensures.0) c.put-4.ensures)
+    (little_field (encrypted m) 2 m.key _
+    (let a = c.split_at_mut-address.ensures.front_len ∙ c.body_at.ensures.0 in
+    let h = c.split_at_mut-header.ensures.back_len in
+    let i = c.split_at_mut-id.ensures.back_len in
+    let s = c.split_at_mut-source.ensures.back_len in
+    let sn = c.only_of.ensures.0 in
+    let d = c.split_at_mut-destination.ensures.back_len in
+    let dn = c.only_of-2.ensures.0 in
+    omega arith)
+    c.put-5.ensures)
+    c.store_body.ensures

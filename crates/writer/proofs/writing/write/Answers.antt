@@ -1,45 +1,28 @@
--- What would be refused leaves the buffer; else head, payload and check are one run from the front. Assumes nothing.
-use Prim.Native.Nat.{ℕ}
-use mathlib.Core.List.{List}
-use mathlib.Core.Path.{refl}
+-- What would be refused leaves the buffer; else head, payload and check stand one after the other. Assumes nothing.
+use mathlib.Core.Path.{refl, ◌∙◌}
 use native.Mathlib.Omega.{arith}
-use lib.ListN.{length}
-use Rattle.message.specs.Layout.{head_length}
-use Rattle.message.specs.Value.{head_bytes}
-use Rattle.message.proofs.Lengths.{length_head}
-use Rattle.wire.proofs.Runs.{fronted, onward}
 use Rattle.writer.proofs.Stored.{storable, run_lands}
 use Rattle.writer.proofs.writing.write.Goals as goal
 
-pub store_head-a-requires : goal.store_head-a-requires
-store_head-a-requires c =
-    let s = storable c.would_write-answer.ensures c.in-Written.is in
-    let l = s.parts in
-    let f = s.fits in
-    (omega arith, s.version, s.encrypt)
+pub split_at_mut-payload-requires : goal.split_at_mut-payload-requires
+split_at_mut-payload-requires c =
+    let s = storable c.would_write.ensures c.in_ok-total.was in
+    omega (arith, s.parts, s.fits, c.head_length.ensures.0, c.split_at_mut-head.ensures.back_len)
 
-pub store_all-b-requires : goal.store_all-b-requires
-store_all-b-requires c =
-    let s = storable c.would_write-answer.ensures c.in-Written.is in
-    let l = s.parts in
-    let f = s.fits in
-    omega arith
+pub split_at_mut-check-requires : goal.split_at_mut-check-requires
+split_at_mut-check-requires c =
+    let s = storable c.would_write.ensures c.in_ok-total.was in
+    omega (arith, s.parts, s.fits, c.head_length.ensures.0, c.split_at_mut-head.ensures.back_len, c.split_at_mut-payload.ensures.back_len)
 
-pub store_all-requires : goal.store_all-requires
-store_all-requires c =
-    let s = storable c.would_write-answer.ensures c.in-Written.is in
-    let l = s.parts in
-    let f = s.fits in
-    omega arith
+pub store_head-requires : goal.store_head-requires
+store_head-requires c =
+    let s = storable c.would_write.ensures c.in_ok-total.was in
+    (c.split_at_mut-head.ensures.front_len ∙ c.head_length.ensures.0, s.version, s.encrypt)
 
-pub returns-in-Written : goal.returns-in-Written
-returns-in-Written c =
-    let a = c.args in
-    let payload : List ℕ = a.payload.now in
-    let check : List ℕ = a.check.now in
-    let old : List ℕ = a.out.now in
-    let s = storable c.would_write-answer.ensures c.in-Written.is in
-    let w1 = fronted old (head_bytes a.m) (head_length a.m) (length_head a.m) c.store_head-a.ensures in
-    let w2 = onward payload (length payload) refl w1 c.store_all-b.ensures in
-    let w3 = onward check (length check) refl w2 c.store_all.ensures in
-    (s.answer, run_lands old s w3.buffer)
+pub returns : goal.returns
+returns c =
+    let s = storable c.would_write.ensures c.in_ok-total.was in (
+      s.answer,
+      run_lands c.args.out.now s c.head_length.ensures.0 refl c.split_at_mut-head.ensures.back c.split_at_mut-payload.ensures.back c.split_at_mut-check.ensures.back
+          c.store_head.ensures c.copy_from_slice.ensures.after c.copy_from_slice-2.ensures.after,
+    )

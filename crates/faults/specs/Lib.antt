@@ -1,2 +1,0 @@
--- What the contracts of `faults` cite.
-pub mod Faults

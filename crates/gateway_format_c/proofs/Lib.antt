@@ -1,2 +1,0 @@
--- The laws that belong to no one function.
-pub mod Outcomes

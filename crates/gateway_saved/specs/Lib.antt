@@ -1,2 +1,0 @@
--- What the contracts of `gateway_saved` cite.
-pub mod Saved

@@ -1,9 +1,0 @@
-// What removing answers.
-use message::Refusal;
-
-// Done, or the refusal.
-#[derive(Clone, Copy)]
-pub enum Removed {
-    Done,
-    Refused(Refusal),
-}

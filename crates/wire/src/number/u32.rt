@@ -1,0 +1,26 @@
+// Four bytes, low byte first.
+ghost use Rattle.wire.specs.Bytes.{little, little_bytes};
+ghost use Rattle.wire.specs.Lengths.{length_little};
+
+use super::Number;
+use crate::front::{first, place};
+
+impl Number for u32 {
+    ghost SIZE = { 4 };
+
+    ghost read = { little };
+
+    ghost written = { little_bytes };
+
+    const SIZE: usize = 4;
+
+    fn get(bytes: &[u8]) -> u32 {
+        u32::from_le_bytes(first(bytes))
+    }
+
+    fn put(self, out: &mut [u8]) {
+        place(out, self.to_le_bytes());
+    }
+
+    ghost length_written = { length_little };
+}

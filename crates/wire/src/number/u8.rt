@@ -1,0 +1,26 @@
+// One byte.
+ghost use Rattle.wire.specs.Bytes.{little, little_bytes};
+ghost use Rattle.wire.specs.Lengths.{length_little};
+
+use super::Number;
+use crate::front::{first, place};
+
+impl Number for u8 {
+    ghost SIZE = { 1 };
+
+    ghost read = { little };
+
+    ghost written = { little_bytes };
+
+    const SIZE: usize = 1;
+
+    fn get(bytes: &[u8]) -> u8 {
+        u8::from_le_bytes(first(bytes))
+    }
+
+    fn put(self, out: &mut [u8]) {
+        place(out, self.to_le_bytes());
+    }
+
+    ghost length_written = { length_little };
+}
