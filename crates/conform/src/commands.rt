@@ -1,4 +1,5 @@
 // The commands on standard input: each is a length of two bytes, low byte first, and that many bytes.
+use crate::input;
 use std::io;
 use std::io::Read;
 use wire::Number;

@@ -6,6 +6,7 @@ mod body;
 mod command;
 mod commands;
 mod fault;
+mod input;
 mod messages;
 mod rows;
 mod saved;

@@ -1,17 +1,20 @@
 -- Only one outcome fits each public contract of the format: two that its clause allows are equal, what a lent buffer holds at exit included.
 -- The laws are stated over the clauses themselves, as the source has them. Assumes nothing.
 use Rattle.std.specs.Prelude.{Result}
+use Rattle.std.specs.declared.clone.Clone.{Ghosts}
 use Prim.Native.Nat.{ℕ}
 use mathlib.Core.Path.{◌≡◌, sym, ap, ◌∙◌}
 use mathlib.Core.List.{List}
 use seplogic.Ra.Ura.{Ura}
-use base.Logic.{SProp, ent}
+use base.Logic.{SProp, ent, via}
+use mir.Syntax.{Dict}
 use prog.Memory.{Memory}
 use prog.Routine.{Routine}
 use types.Logic.{Logic}
-use contract.Monad.{Fun, conj, fact}
+use contract.Monad.{Fun, conj, conj_mono, fact}
 use contract.Lifetimes.{Lfts}
 use denote.MutBor.{MutBor}
+use denote.RattleType.{RattleType}
 use denote.Ref.{Bor}
 use denote.Triple.Clauses.{AtExit}
 use Rattle.message.specs.Answers.{buffer_after}
@@ -21,10 +24,13 @@ use Rattle.message.specs.declared.value.Message.{Message}
 use Rattle.message.specs.declared.answers.Taken.{Taken}
 use Rattle.message.specs.declared.answers.Refusal.{Refusal}
 use Rattle.message.specs.declared.answers.Unframed.{Unframed}
-use Rattle.wire.proofs.One.{both}
+use Rattle.message.specs.contracts.answers.RefusalNumbered.number as of_refusal
+use Rattle.message.specs.contracts.answers.U8Numbered.number as of_number
+use Rattle.wire.proofs.One.{both, two}
 use Rattle.reader.specs.contracts.read as read
 use Rattle.outer.specs.contracts.read_outer as outer
 use Rattle.parts.specs.declared.Parts.{Parts}
+use Rattle.parts.specs.contracts.split as split
 use Rattle.parts.specs.contracts.payload as payload
 use Rattle.parts.specs.contracts.check as check
 use Rattle.judge.specs.contracts.would_write as would
@@ -49,15 +55,23 @@ module _ {M : Type 1} {𝓤 : Ura M} (𝓛 : Logic 𝓤) (at_mem : Memory → SP
       ent 𝓤 (conj 𝓤 (allows r x) (allows s y)) (fact 𝓤 (r ≡ s))
   one_read_outer κs bytes r s x y = both 𝓤 _ _ _ (λ e f. e ∙ sym f)
 
-  pub one_payload : (κs : Lfts 1) (bytes : Bor (List ℕ)) (reading : Result Taken Refusal) (r s : Bor (List ℕ)) (x y : AtExit payload.ended κs)
-      → let allows : Bor (List ℕ) → AtExit payload.ended κs → SProp 𝓤 = λ v e. (payload.clauses 𝓛 at_mem run κs (bytes, (reading, tt))).ensures tt v e in
-      ent 𝓤 (conj 𝓤 (allows r x) (allows s y)) (fact 𝓤 (r.now ≡ s.now))
-  one_payload κs bytes reading r s x y = both 𝓤 _ _ _ (λ e f. e ∙ sym f)
+  -- the parts, whatever tells why it was refused
+  module _ (E : RattleType) (clone : Ghosts E.Denot) (dict : Dict) where
+    pub one_split : (κs : Lfts 2) (bytes : Bor (List ℕ)) (reading : Result Taken E.Denot) (r s : Parts) (x y : AtExit (split.ended E clone dict) κs)
+        → let allows : Parts → AtExit (split.ended E clone dict) κs → SProp 𝓤 = λ v e. (split.clauses E clone dict 𝓛 at_mem run κs (bytes, (reading, tt))).ensures tt v e in
+        ent 𝓤 (conj 𝓤 (allows r x) (allows s y)) (fact 𝓤 ((r.payload.now ≡ s.payload.now) × (r.check.now ≡ s.check.now)))
+    one_split κs bytes reading r s x y =
+        via 𝓤 _ (conj_mono 𝓤 (two 𝓤 _ _) (two 𝓤 _ _)) (both 𝓤 _ _ _ (λ e f. (e.0 ∙ sym f.0, e.1 ∙ sym f.1)))
 
-  pub one_check : (κs : Lfts 1) (bytes : Bor (List ℕ)) (reading : Result Taken Refusal) (r s : Bor (List ℕ)) (x y : AtExit check.ended κs)
-      → let allows : Bor (List ℕ) → AtExit check.ended κs → SProp 𝓤 = λ v e. (check.clauses 𝓛 at_mem run κs (bytes, (reading, tt))).ensures tt v e in
-      ent 𝓤 (conj 𝓤 (allows r x) (allows s y)) (fact 𝓤 (r.now ≡ s.now))
-  one_check κs bytes reading r s x y = both 𝓤 _ _ _ (λ e f. e ∙ sym f)
+    pub one_payload : (κs : Lfts 2) (bytes : Bor (List ℕ)) (reading : Result Taken E.Denot) (r s : Bor (List ℕ)) (x y : AtExit (payload.ended E clone dict) κs)
+        → let allows : Bor (List ℕ) → AtExit (payload.ended E clone dict) κs → SProp 𝓤 = λ v e. (payload.clauses E clone dict 𝓛 at_mem run κs (bytes, (reading, tt))).ensures tt v e in
+        ent 𝓤 (conj 𝓤 (allows r x) (allows s y)) (fact 𝓤 (r.now ≡ s.now))
+    one_payload κs bytes reading r s x y = both 𝓤 _ _ _ (λ e f. e ∙ sym f)
+
+    pub one_check : (κs : Lfts 2) (bytes : Bor (List ℕ)) (reading : Result Taken E.Denot) (r s : Bor (List ℕ)) (x y : AtExit (check.ended E clone dict) κs)
+        → let allows : Bor (List ℕ) → AtExit (check.ended E clone dict) κs → SProp 𝓤 = λ v e. (check.clauses E clone dict 𝓛 at_mem run κs (bytes, (reading, tt))).ensures tt v e in
+        ent 𝓤 (conj 𝓤 (allows r x) (allows s y)) (fact 𝓤 (r.now ≡ s.now))
+    one_check κs bytes reading r s x y = both 𝓤 _ _ _ (λ e f. e ∙ sym f)
 
   pub one_would_write : (κs : Lfts 1) (m : Message) (parts : Parts) (room : ℕ) (r s : Result ℕ Refusal) (x y : AtExit would.ended κs)
       → let allows : Result ℕ Refusal → AtExit would.ended κs → SProp 𝓤 = λ v e. (would.clauses 𝓛 at_mem run κs (m, (parts, (room, tt)))).ensures tt v e in
@@ -100,3 +114,14 @@ module _ {M : Type 1} {𝓤 : Ura M} (𝓛 : Logic 𝓤) (at_mem : Memory → SP
       → let allows : Result ℕ Refusal → AtExit frame.ended κs → SProp 𝓤 = λ v e. (frame.clauses 𝓛 at_mem run κs (m, (out, tt))).ensures tt v e in
       ent 𝓤 (conj 𝓤 (allows r x) (allows s y)) (fact 𝓤 ((r ≡ s) × (x.1.0.now ≡ y.1.0.now)))
   one_frame κs m out r s x y = both 𝓤 _ _ _ (λ e f. (e.0 ∙ sym f.0, e.1 ∙ ap (λ (v : Result ℕ Refusal). buffer_after v (frame_bytes m.now) out.now) (e.0 ∙ sym f.0) ∙ sym f.1))
+
+  -- the number of what was refused
+  pub one_number_of_refusal : (refusal : Refusal) (r s : ℕ)
+      → let allows : ℕ → SProp 𝓤 = λ v. (of_refusal.clauses 𝓛 at_mem run tt (refusal, tt)).ensures tt v (refusal, tt) in
+      ent 𝓤 (conj 𝓤 (allows r) (allows s)) (fact 𝓤 (r ≡ s))
+  one_number_of_refusal refusal r s = both 𝓤 _ _ _ (λ e f. e ∙ sym f)
+
+  pub one_number_of_number : (n : ℕ) (r s : ℕ)
+      → let allows : ℕ → SProp 𝓤 = λ v. (of_number.clauses 𝓛 at_mem run tt (n, tt)).ensures tt v (n, tt) in
+      ent 𝓤 (conj 𝓤 (allows r) (allows s)) (fact 𝓤 (r ≡ s))
+  one_number_of_number n r s = both 𝓤 _ _ _ (λ e f. e ∙ sym f)

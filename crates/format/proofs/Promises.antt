@@ -1,7 +1,7 @@
 -- What the message format promises, each as a theorem of its own. The laws behind them are in the other files of this folder. Assumes nothing.
 
 -- Only one outcome fits each public contract.
-pub use Rattle.format.proofs.Outcomes.{one_read, one_read_outer, one_payload, one_check, one_would_write, one_write, one_would_acknowledge, one_acknowledge, one_unframe, one_framed_message, one_framed_rest, one_frame}
+pub use Rattle.format.proofs.Outcomes.{one_read, one_read_outer, one_split, one_payload, one_check, one_would_write, one_write, one_would_acknowledge, one_acknowledge, one_unframe, one_framed_message, one_framed_rest, one_frame}
 -- The value that bytes say, and so every value that reading takes, is within the types of its fields.
 pub use Rattle.format.proofs.Sized.{sized_of, read_is_sized}
 use Rattle.std.specs.Prelude.{Option, Result, Ok, Err}

@@ -1,7 +1,6 @@
 // The boundary of `format` to callers in other languages: reading, writing and framing over numbers and
 // lent arrays. Each function gives the number of the refusal, 0 for none, and on a refusal leaves all
-// that was lent as it was, but for the offset, which a reading hands out. They are built apart from `gateway`, so
-// that the path of a received message is compiled by itself.
+// that was lent as it was, but for the offset, which a reading hands out. `gateway_format_c` exports them.
 #![tactic(auto)]
 
 mod messages;

@@ -14,8 +14,7 @@ use wire::Number;
 
 // The fields of a message, and where its payload and its check stand in the bytes. Whatever reading
 // refuses, with the byte at fault in `offset`, which otherwise stays as it was.
-#[unsafe(no_mangle)]
-pub extern "C" fn kabizarle_read(bytes: &[u8], fields: &mut [u64; FIELDS], offset: &mut u64) -> u32
+pub fn kabizarle_read(bytes: &[u8], fields: &mut [u64; FIELDS], offset: &mut u64) -> u32
     ensures result { result ≡ number_in (read_of bytes.now) }
     ensures fields { fields.new ≡ read_after (read_of bytes.now) (length bytes.now) fields.old }
     ensures offset { offset.new ≡ offset_after (read_of bytes.now) offset.old }
@@ -40,8 +39,7 @@ pub extern "C" fn kabizarle_read(bytes: &[u8], fields: &mut [u64; FIELDS], offse
 // ten places are looked at. A number that its field cannot hold is refused with 14 before anything
 // else; then whatever writing refuses.
 #[tactic(auto, using(crate::proofs::Answered::fit, crate::proofs::Answered::unfit, crate::proofs::Answered::is_value))]
-#[unsafe(no_mangle)]
-pub extern "C" fn kabizarle_write(
+pub fn kabizarle_write(
     fields: &[u64; FIELDS],
     payload: &[u8],
     check: &[u8],

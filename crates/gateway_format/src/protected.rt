@@ -17,12 +17,7 @@ fn store_part(start: usize, len: usize, part: &mut [u64; PART_PLACES])
 
 // Where the protected part of a message starts and how long it is. Refusals 1 to 9, with the byte at fault
 // in `offset`, which otherwise stays as it was.
-#[unsafe(no_mangle)]
-pub extern "C" fn kabizarle_read_outer(
-    bytes: &[u8],
-    part: &mut [u64; PART_PLACES],
-    offset: &mut u64,
-) -> u32
+pub fn kabizarle_read_outer(bytes: &[u8], part: &mut [u64; PART_PLACES], offset: &mut u64) -> u32
     ensures result { result ≡ number_in (outer_of bytes.now) }
     ensures part { part.new ≡ part_after (outer_of bytes.now) part.old }
     ensures offset { offset.new ≡ offset_after (outer_of bytes.now) offset.old }

@@ -11,8 +11,7 @@ use places::FRAME_PLACES;
 // Where the message at the front of a stream stands, and what follows it; or how many bytes are still
 // wanted. Never refuses.
 #[tactic(auto, using(stream::proofs::Streams::whole_there))]
-#[unsafe(no_mangle)]
-pub extern "C" fn kabizarle_unframe(stream: &[u8], frame: &mut [u64; FRAME_PLACES]) -> u32
+pub fn kabizarle_unframe(stream: &[u8], frame: &mut [u64; FRAME_PLACES]) -> u32
     ensures result { result ≡ 0 }
     ensures frame { frame.new ≡ frame_places (unframe_of stream.now) (length stream.now) }
 {
@@ -33,8 +32,7 @@ pub extern "C" fn kabizarle_unframe(stream: &[u8], frame: &mut [u64; FRAME_PLACE
 
 // Writes a message with its length before it at the front of a buffer, and says how many bytes that is.
 // Refusals 1 and 19; the message is not judged.
-#[unsafe(no_mangle)]
-pub extern "C" fn kabizarle_frame(message: &[u8], out: &mut [u8], written: &mut u64) -> u32
+pub fn kabizarle_frame(message: &[u8], out: &mut [u8], written: &mut u64) -> u32
     ensures result { result ≡ number_in (frame_of message.now (length out.old)) }
     ensures buffer { out.new ≡ buffer_after (frame_of message.now (length out.old)) (frame_bytes message.now) out.old }
     ensures written { written.new ≡ count_after (frame_of message.now (length out.old)) written.old }

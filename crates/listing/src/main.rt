@@ -2,6 +2,7 @@
 // at the end the count of the bytes left over.
 #![tactic(auto)]
 
+mod input;
 mod listing;
 mod output;
 

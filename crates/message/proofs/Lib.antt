@@ -1,4 +1,5 @@
 pub mod Logic
+pub mod Numbers
 pub mod Order
 pub mod Writings
 pub mod Lengths

@@ -1,5 +1,5 @@
 // What reading, writing and the stream answer beside a value: the refusals, the head of a message, and what a stream holds.
-ghost use Rattle.std.specs.Prelude.{◌≡◌};
+ghost use Rattle.std.specs.Prelude.{◌≡◌, ◌++◌, ℕ, Some, codes, decimal};
 ghost use Rattle.message.specs.Reasons.{number, refusal};
 
 use crate::value::Message;
@@ -101,6 +101,32 @@ impl From<Reason> for Refusal {
     }
 }
 
+// What was refused, by its number alone: a refusal, or a number, whose caller may have one that is no reason's.
+pub trait Numbered: Copy {
+    ghost numbered: { Self → ℕ };
+
+    // Its number.
+    fn number(self) -> u8
+        ensures { result ≡ numbered self };
+}
+
+// That of its reason.
+impl Numbered for Refusal {
+    ghost numbered = { λ r. number r.reason };
+
+    fn number(self) -> u8 {
+        self.reason.number()
+    }
+}
+
+impl Numbered for u8 {
+    ghost numbered = { λ n. n };
+
+    fn number(self) -> u8 {
+        self
+    }
+}
+
 // The number, as C gets it.
 impl From<Refusal> for u32 {
     ghost from_gives = { λ r given. given ≡ number r.reason };
@@ -110,8 +136,10 @@ impl From<Refusal> for u32 {
     }
 }
 
-// The number, and where it is.
+// The number, and where it is, in decimal.
 impl fmt::Display for Refusal {
+    ghost output = { λ r. Some (decimal (number r.reason) ++ (codes " " ++ decimal r.offset)) };
+
     fn fmt<W: fmt::Write>(&self, f: &mut fmt::Formatter<W>) -> fmt::Result {
         write!(f, "{} {}", self.reason.number(), self.offset)
     }

@@ -6,5 +6,5 @@ mod answers;
 pub mod layout;
 mod value;
 
-pub use answers::{Head, Reason, Refusal, Taken, Unframed};
+pub use answers::{Head, Numbered, Reason, Refusal, Taken, Unframed};
 pub use value::{Message, body_at, only_of};

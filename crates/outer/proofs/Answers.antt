@@ -20,7 +20,7 @@ use Rattle.outer.proofs.Beginning.{address_clear, refused_first, outer_fixed}
 pub outer_refused : (bytes : List ℕ) (r : Refusal) → begun_of bytes ≡ Err r → outer_of bytes ≡ Err r
 unfolding outer_of
 outer_refused bytes r e =
-    ap (λ (q : Option Refusal). outer_reading q (start_of bytes (message_of bytes)) (length bytes - start_of bytes (message_of bytes))) (refused_first bytes r e)
+    ap (λ (q : Option Refusal). outer_reading q (start_of bytes (message_of bytes)) (length bytes - start_of bytes (message_of bytes))) (refused_first bytes r e).0
 
 -- the value up to the key id was given: it agrees with the whole value on what the length and the start go by
 module _ (bytes : List ℕ) (m : Message) (e : begun_of bytes ≡ Ok m) where

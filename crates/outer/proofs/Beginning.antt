@@ -9,7 +9,7 @@ use lib.Dec.{ltb}
 use lib.ListN.{length, take, drop}
 use Rattle.wire.specs.Bytes.{little, front}
 use Rattle.wire.proofs.Places.{place_get}
-use Rattle.message.specs.Reasons.{refusal}
+use Rattle.message.specs.Reasons.{number, refusal}
 use Rattle.message.specs.Order.{Condition, ◌when◌, ◌at_byte◌, first_refusal, first, passed}
 use Rattle.message.specs.Answers.{unless}
 use Rattle.message.specs.Value.{bit, header, address_of, exchanged_by, message_of}
@@ -18,6 +18,7 @@ use Rattle.message.specs.declared.value.Message.{Message}
 use Rattle.message.specs.declared.answers.Reason.{Reason}
 use Rattle.message.specs.declared.answers.Reason.TheVariants.{TooLong, TooShort}
 use Rattle.message.specs.declared.answers.Refusal.{Refusal}
+use Rattle.message.proofs.Numbers.{number_some}
 use Rattle.message.proofs.Order.{refusal_for, none_first, first_hit, first_pass, first_at_zero, passed_err, passed_ok}
 use Rattle.message.proofs.Writings.{unless_ok, unless_err}
 use Rattle.outer.specs.Outer.{outer_order}
@@ -95,10 +96,10 @@ pub address_clear : (bytes : List ℕ) (m : Message) → begun_of bytes ≡ Ok m
 unfolding begun_of
 address_clear bytes m e = unless_ok _ _ m e
 
--- a refusal was given: it is the first condition to hold
-pub refused_first : (bytes : List ℕ) (q : Refusal) → begun_of bytes ≡ Err q → first_refusal (outer_order bytes (message_of bytes)) ≡ Some q
+-- a refusal was given: it is the first condition to hold, and has a number
+pub refused_first : (bytes : List ℕ) (q : Refusal) → begun_of bytes ≡ Err q → (first_refusal (outer_order bytes (message_of bytes)) ≡ Some q) × (number q.reason ≡ 0 → ⊥)
 unfolding begun_of
-refused_first bytes q e = unless_err _ _ q e
+refused_first bytes q e = (unless_err _ _ q e, number_some q.reason)
 
 -- the fixed part is there
 pub outer_fixed : (bytes : List ℕ) → first (outer_order bytes (message_of bytes)) ≡ None → fixed_at (header bytes) ≤ length bytes

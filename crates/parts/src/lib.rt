@@ -5,7 +5,7 @@
 ghost use Rattle.std.specs.Prelude.{◌≡◌};
 ghost use Rattle.parts.specs.Parts.{payload_of, check_of};
 
-use message::{Refusal, Taken};
+use message::Taken;
 
 // The payload, or the packet of a tunnelled message; and the check, which is 20 bytes of an encrypted message
 // and none of a plain one.
@@ -15,18 +15,19 @@ pub struct Parts<'a> {
     pub check: &'a [u8],
 }
 
-// Both: what stands behind the head, parted where the check begins. A head that was not read of these bytes
-// may be of any length.
+// Both: the check is the last bytes, and the payload what stands between the head and it. A head that was not read of
+// these bytes may be of any length. The check is taken off first, so that nothing wraps. Why it was refused may be told
+// in any way: of a refusal nothing is read.
 #[tactic(auto, unfolding(crate::specs::Parts::payload_of, crate::specs::Parts::check_of))]
-pub fn split(bytes: &[u8], reading: Result<Taken, Refusal>) -> Parts<'_>
+pub fn split<E: Copy>(bytes: &[u8], reading: Result<Taken, E>) -> Parts<'_>
     ensures payload { result.payload.now ≡ payload_of bytes.now reading }
     ensures check { result.check.now ≡ check_of bytes.now reading }
 {
     if let Ok(Taken { message, head }) = reading
-        && let Some(rest) = bytes.get(head.length..)
-        && let Some(end) = rest.len().checked_sub(message.check_length())
+        && let Some(end) = bytes.len().checked_sub(message.check_length())
+        && let Some(payload) = bytes.get(head.length..end)
     {
-        let (payload, check) = rest.split_at(end);
+        let check = &bytes[end..];
         return Parts { payload, check };
     }
     Parts {
@@ -36,14 +37,14 @@ pub fn split(bytes: &[u8], reading: Result<Taken, Refusal>) -> Parts<'_>
 }
 
 // The payload, or the packet of a tunnelled message.
-pub fn payload(bytes: &[u8], reading: Result<Taken, Refusal>) -> &[u8]
+pub fn payload<E: Copy>(bytes: &[u8], reading: Result<Taken, E>) -> &[u8]
     ensures { result.now ≡ payload_of bytes.now reading }
 {
     split(bytes, reading).payload
 }
 
 // The check: 20 bytes of an encrypted message, none of a plain one.
-pub fn check(bytes: &[u8], reading: Result<Taken, Refusal>) -> &[u8]
+pub fn check<E: Copy>(bytes: &[u8], reading: Result<Taken, E>) -> &[u8]
     ensures { result.now ≡ check_of bytes.now reading }
 {
     split(bytes, reading).check

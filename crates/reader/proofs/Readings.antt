@@ -31,7 +31,7 @@ use Rattle.reader.proofs.Steps.{address_tunnelled, address_exchanged}
 pub read_refused : (bytes : List ℕ) (r : Refusal) → begun_of bytes ≡ Err r → read_of bytes ≡ Err r
 unfolding read_of reading_order
 read_refused bytes r e =
-    ap (λ (q : Option Refusal). reading q (message_of bytes)) (first_hit (outer_order bytes (message_of bytes)) (body_order bytes (message_of bytes)) r (refused_first bytes r e))
+    ap (λ (q : Option Refusal). reading q (message_of bytes)) (first_hit (outer_order bytes (message_of bytes)) (body_order bytes (message_of bytes)) r (refused_first bytes r e).0)
 
 -- ---- outer reading gave the value up to the key id
 

@@ -39,7 +39,7 @@ module _ (n : ℕ) (p : ℕ → Bool) where
           let l : s.number < first_below n p = omega (arith, s.below, ltb-false (first_below n p) n e) in
           clash (p s.number) s.holds (least_misses n p s.number l)
 
-  -- and none (`none_below` in Ok)
+  -- and none (`none_below` in Placed)
   pub none_when : ((k : ℕ) → k < n → p k ≡ false) → some_below n p ≡ false
   none_when h = le-ltb (first_below n p) n (omega (arith, least_none n p h))
 

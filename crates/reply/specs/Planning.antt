@@ -17,14 +17,21 @@ abbrev pub lacks_room : Result ℕ Refusal → Bool
 lacks_room (Ok n) = false
 lacks_room (Err r) = eqb (number r.reason) 19
 
--- why it is not written
-abbrev pub reason_of : Reason → Reason
-reason_of reason = cond (eqb (number reason) 19) NoRoom Unwritable
+-- why it is not written, by the number of the refusal
+abbrev pub reason_by : ℕ → Reason
+reason_by n = cond (eqb n 19) NoRoom Unwritable
 
--- the same answer with the two reasons apart
+abbrev pub reason_of : Reason → Reason
+reason_of reason = reason_by (number reason)
+
+-- the same answer with the two reasons apart, by the number of what refuses
+abbrev pub reasoned_by : {E : Type 0} → (E → ℕ) → Result ℕ E → Result ℕ Refusal
+reasoned_by numbered (Ok n) = Ok n
+reasoned_by numbered (Err e) = Err (refusal (reason_by (numbered e)))
+
+-- where this is a refusal, which has the number of its reason
 abbrev pub reasoned : Result ℕ Refusal → Result ℕ Refusal
-reasoned (Ok n) = Ok n
-reasoned (Err r) = Err (refusal (reason_of r.reason))
+reasoned = reasoned_by (λ r. number r.reason)
 
 -- what a message is answered with, by whether it wants an acknowledgement: 0 bytes where it does not
 unfoldable pub planned_of : Bool → Message → ℕ → Result ℕ Refusal

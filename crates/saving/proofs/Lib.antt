@@ -1,6 +1,5 @@
 -- The laws that belong to no one function.
 pub mod Promises
-pub mod Counting
 pub mod Filled
 pub mod Loops
 pub mod Outcomes

@@ -1,5 +1,5 @@
--- What the loop over the rows knows at a number, and how it goes on: the records of the rows before it that are in use have been written; and
--- when there is room for all. Assumes nothing.
+-- What the two loops over the rows know at a number, and how they go on: the rows before it that are in use have been counted, or their records
+-- written; and when there is room for all. Assumes nothing.
 use Prim.Native.Nat.{ℕ, zero, suc, ◌+◌, ◌-◌, ◌*◌, ◌≤◌, ◌<◌}
 use native.Mathlib.Nat.{le_refl}
 use mathlib.Core.Path.{◌≡◌, sym, ap, subst, subst⁻¹, ◌∙◌}
@@ -37,6 +37,30 @@ module _ (t : List ℕ) (n : ℕ) (row : Row) (l : n < rows) (e : row ≡ row_at
   -- it is free
   pub next_free : row.used ≡ false → kept (n + 1) in_use (row_of t) ≡ kept n in_use (row_of t)
   next_free u = next ∙ ap (λ (b : Bool). kept n in_use (row_of t) ++ cond b (row ∷ []) []) u ∙ append-nil (kept n in_use (row_of t))
+
+-- ---- counting
+
+abbrev pub Counted : List ℕ → ℕ → ℕ → Type 0
+Counted t n count = count ≡ length (kept n in_use (row_of t))
+
+module _ (t : List ℕ) (n count : ℕ) (row : Row) (l : n < rows) (e : row ≡ row_at t n) (c : Counted t n count) where
+  pub count_used : row.used ≡ true → Counted t (n + 1) (count + 1)
+  count_used u =
+      let a = ap length (next_used t n row l e u) in
+      let b = length-append (kept n in_use (row_of t)) (row ∷ []) in
+      omega (arith, a, b, c)
+
+  pub count_free : row.used ≡ false → Counted t (n + 1) count
+  count_free u = c ∙ sym (ap length (next_free t n row l e u))
+
+pub counted_most : (t : List ℕ) (n count : ℕ) → n ≤ rows → Counted t n count → count ≤ 32
+counted_most t n count h c = omega (arith, h, c, kept_most n in_use (row_of t))
+
+pub counted_all : (t : List ℕ) (n count : ℕ) → n ≤ rows → rows ≤ n → Counted t n count → (count ≡ length (rows_in_use t)) × (count ≤ 32)
+counted_all t n count k h c =
+    let s : n ≡ 32 = omega (arith, k, h) in
+    let a : count ≡ length (rows_in_use t) = c ∙ ap (λ (j : ℕ). length (kept j in_use (row_of t))) s in
+    (a, omega (arith, a, kept_most 32 in_use (row_of t)))
 
 -- ---- writing
 

@@ -12,13 +12,17 @@ use table::{ROWS, WORDS};
 use window::Row;
 use wire::Number;
 
-// How many rows are in use.
+// How many rows are in use. A `for`: counted by `filter` and `count`, a table that is saved into less than 576 bytes takes twice the time.
 fn rows_in_use(table: &[u64; WORDS]) -> usize
     ensures { (result ≡ length (rows_in_use table.now)) × (result ≤ 32) }
 {
-    (0..ROWS)
-        .filter(|number| table_rows::row_at(table, *number).used)
-        .count()
+    let mut count = 0;
+    for number in 0..ROWS {
+        if table_rows::row_at(table, number).used {
+            count += 1;
+        }
+    }
+    count
 }
 
 // 19. Where there is room for a record of every row, those in use are not counted.

@@ -28,18 +28,24 @@ fn is_free(table: &[u64; WORDS], number: usize) -> bool
     words[layout::STATE] / layout::IN_USE % 2 != 1
 }
 
-// The first number of a row that passes a test, if one does. With the library's `position` over the rows
-// receiving takes one to two instructions more, where it is above the bar already, which is the count of C.
+// The first number of a row that passes a test, if one does: the loop breaks with it, or with the number of rows
+// where none passes. With the library's `position` over the rows receiving takes one to two instructions more,
+// where it is above the bar already, which is the count of C.
 fn first_row<F: Fn(usize) -> bool>(test: F) -> Option<usize>
     requires { (i : ℕ) → i < rows → F.pre test i }
     ensures { (p : ℕ → Bool) → ((i : ℕ) (b : Bool) → i < rows → F.post test i b → b ≡ p i) → result ≡ found_row (first_below rows p) }
 {
-    for number in 0..ROWS {
-        if test(number) {
-            return Some(number);
+    let mut number = 0;
+    let found = loop {
+        if ROWS <= number {
+            break ROWS;
         }
-    }
-    None
+        if test(number) {
+            break number;
+        }
+        number += 1;
+    };
+    (found < ROWS).then_some(found)
 }
 
 // The number of the first row in use under this name, if there is one. Node and key id stay two

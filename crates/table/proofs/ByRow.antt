@@ -1,13 +1,13 @@
 -- The words of a table row by row: each row stands in its three. Assumes nothing.
 use Prim.Native.Nat.{ℕ, zero, suc, ◌+◌, ◌*◌, ◌<◌}
-use mathlib.Core.Path.{◌≡◌, refl, ap, ◌∙◌}
+use mathlib.Core.Path.{◌≡◌, refl, sym, ap, ◌∙◌}
 use mathlib.Core.List.{List, []}
 use native.Mathlib.Omega.{arith}
 use Rattle.std.proofs.Common.{length, get_or, take, drop}
 use Rattle.std.proofs.lemmas.List.{get_or-take, get_or-drop}
 use Rattle.std.specs.Simd.{first_chunks}
-use Rattle.table.proofs.Words.{fields}
-use Rattle.table.specs.Table.{rows, words_by_row, row_of}
+use Rattle.table.proofs.Words.{fields, row_within}
+use Rattle.table.specs.Table.{rows, words_by_row, row_of, row_at}
 
 -- the row in three words is that of these words
 row_in_front : (t : List ℕ) → row_of (take 3 t) 0 ≡ row_of t 0
@@ -40,3 +40,7 @@ length_by_row t = length_chunks rows t
 pub row_by_row : (ws : List (List ℕ)) (t : List ℕ) (i : ℕ) → ws ≡ words_by_row t → i < rows → row_of (get_or ws i []) 0 ≡ row_of t i
 unfolding words_by_row
 row_by_row ws t i e l = ap (λ (us : List (List ℕ)). row_of (get_or us i []) 0) e ∙ chunk_at rows t i l
+
+-- the words found at a number are the row there
+pub row_at_words : (w : List ℕ) (ws : List (List ℕ)) (t : List ℕ) (i : ℕ) → w ≡ get_or ws i [] → ws ≡ words_by_row t → i < rows → row_of w 0 ≡ row_at t i
+row_at_words w ws t i e f l = ap (λ (v : List ℕ). row_of v 0) e ∙ row_by_row ws t i f l ∙ sym (row_within t i l)

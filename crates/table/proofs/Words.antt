@@ -22,6 +22,11 @@ pub from_bool_one_if : (b : Bool) → from_bool b ≡ one_if b
 from_bool_one_if true = refl
 from_bool_one_if false = refl
 
+-- and it is a bit
+pub one_if_small : (b : Bool) → one_if b ≤ 1
+one_if_small true = omega arith
+one_if_small false = omega arith
+
 -- ---- a name, as the search compares it
 
 -- another node is another name

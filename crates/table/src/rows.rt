@@ -51,6 +51,8 @@ pub fn put_at<const N: usize>(words: &mut [u64; N], number: usize, row: Row)
 }
 
 // Puts a row into three words, whole. It only calls `put_at`, and stands because `one_put_words` is a law of its clause.
+// The proof looks into `with_row`, so that a wrong body is refused by what it stores and not by its form.
+#[tactic(auto, unfolding(crate::specs::Table::with_row))]
 pub fn put_words(words: &mut [u64; layout::ROW], row: Row)
     ensures { words.new ≡ with_row words.old 0 row }
 {

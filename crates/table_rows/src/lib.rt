@@ -18,22 +18,29 @@ pub fn row_at(table: &[u64; WORDS], number: usize) -> Row
     }
 }
 
-// The row at a number, in use under a name that the caller knows already, as after a search: its ids are
-// those of the row there, whatever that says of its name and its use. Past the last row they are zero.
+// The row at a number, in use under a name that the caller knows already, as after a search: what is left
+// to be read of it is its ids, whatever the row says of its name and its use. Past the last row they are zero.
+#[tactic(auto, using(table::proofs::Words::row_past))]
 pub fn row_under(table: &[u64; WORDS], number: usize, node: u64, key: u16) -> Row
     ensures { result ≡ row_under node key (row_at table.now number) }
 {
-    Row {
-        used: true,
-        node,
-        key,
-        ..row_at(table, number)
+    match table::as_rows(table).get(number) {
+        // A remainder makes each number fit before its cast; `From` does not narrow.
+        Some(words) => Row {
+            used: true,
+            node,
+            key,
+            highest: (words[layout::STATE] % layout::IDS) as u32,
+            marks: (words[layout::MARKS] % layout::MARK_BITS) as u16,
+        },
+        None => Row::open(node, key, 0),
     }
 }
 
 // Puts a row at a number, its three words whole; all other words stay. Past the last row nothing
 // changes. It only calls `table::put_at`, and stands because `one_put_row` is a law of its clause.
-#[tactic(auto, unfolding(table::specs::Table::put_at))]
+// The proof looks into `with_row`, so that a wrong body is refused by what it stores and not by its form.
+#[tactic(auto, unfolding(table::specs::Table::put_at, table::specs::Table::with_row))]
 pub fn put_row(table: &mut [u64; WORDS], number: usize, row: Row)
     ensures { table.new ≡ put_at table.old number row }
 {

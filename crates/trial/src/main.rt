@@ -5,6 +5,8 @@
 ghost use Rattle.std.specs.Prelude.{◌≡◌};
 ghost use Rattle.trial.specs.Lines.{tally_line};
 
+mod input;
+
 use lines::Figure;
 use std::io;
 use widths::{Refusal, Tally, Tried};

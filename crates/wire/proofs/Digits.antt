@@ -3,7 +3,7 @@ use Prim.Native.Nat.{ℕ, zero, suc, ◌+◌, ◌*◌, ◌/◌, ◌%◌, ◌^◌
 use mathlib.Core.Path.{◌≡◌, refl, sym, ap, ap₂, ◌∙◌}
 use mathlib.Core.List.{List, [], ◌∷◌, ◌++◌, reverse, reverse-reverse, reverse-cons}
 use native.Mathlib.Omega.{arith}
-use native.Mathlib.Nat.{pow-suc}
+use native.Mathlib.Nat.{pow-suc, pow-succ', mul_assoc}
 use lib.ListN.{length, get_or, take, length-reverse}
 use Rattle.wire.specs.Bytes.{little, big, little_bytes, big_bytes}
 pub use Rattle.wire.specs.Lengths.{length_little, length_big}
@@ -62,3 +62,34 @@ little_of (suc w) x h =
 
 pub big_of : (w x : ℕ) → x < 256 ^ w → big (big_bytes w x) ≡ x
 big_of w x h = ap little (reverse-reverse (little_bytes w x)) ∙ little_of w x h
+
+-- the bytes of the number whose bytes are those of another in the other order
+pub turned : (w x : ℕ) → little_bytes w (little (big_bytes w x)) ≡ big_bytes w x
+turned w x =
+    ap (λ (n : ℕ). little_bytes n (little (big_bytes w x))) (sym (length_big w x))
+    ∙ bytes_little (all_reverse (all_little w x))
+
+-- what stands above w bytes does not show in them
+head_low : (x y : ℕ) → (x + 256 * y) % 256 ≡ x % 256
+head_low x y = omega arith
+
+tail_low : (x y : ℕ) → (x + 256 * y) / 256 ≡ x / 256 + y
+tail_low x y = omega arith
+
+pub bytes_low : (w x q : ℕ) → little_bytes w (x + 256 ^ w * q) ≡ little_bytes w x
+bytes_low zero x q = refl
+bytes_low (suc w) x q =
+    let e : x + 256 ^ suc w * q ≡ x + 256 * (256 ^ w * q) = ap (λ (n : ℕ). x + n) (ap (λ (p : ℕ). p * q) (pow-succ' 256 w) ∙ mul_assoc 256 (256 ^ w) q) in
+    ap (λ (n : ℕ). little_bytes (suc w) n) e
+    ∙ ap₂ (λ (b : ℕ) (r : List ℕ). b ∷ r) (head_low x (256 ^ w * q)) (ap (λ (n : ℕ). little_bytes w n) (tail_low x (256 ^ w * q)) ∙ bytes_low w (x / 256) q)
+
+-- eight bytes are those of the low half and those of the high half
+low_half : (x : ℕ) → little_bytes 4 x ≡ little_bytes 4 (x % 4294967296)
+low_half x =
+    let e : x ≡ x % 4294967296 + 256 ^ 4 * (x / 4294967296) = omega arith in
+    ap (λ (n : ℕ). little_bytes 4 n) e ∙ bytes_low 4 (x % 4294967296) (x / 4294967296)
+
+pub halves : (x : ℕ) → little_bytes 8 x ≡ little_bytes 4 (x % 4294967296) ++ little_bytes 4 (x / 4294967296)
+halves x =
+    let e : x / 256 / 256 / 256 / 256 ≡ x / 4294967296 = omega arith in
+    ap₂ (λ (l : List ℕ) (y : ℕ). l ++ little_bytes 4 y) (low_half x) e

@@ -47,12 +47,12 @@ pub got_high : {x : ℕ} {r : List ℕ} (bytes : List ℕ) → r ≡ part (front
 got_high {r} bytes e f = f ∙ high r ∙ ap (λ (l : List ℕ). big (part l 0 2)) e ∙ big_padded 2 bytes
 
 -- the bytes of a number, highest first
-turned : (x : ℕ) → swap_bytes w64 x ≡ big (little_bytes 8 x)
-turned x = omega arith
+swapped : (x : ℕ) → swap_bytes w64 x ≡ big (little_bytes 8 x)
+swapped x = omega arith
 
 pub got_turned : {x y : ℕ} (bytes : List ℕ) → ((i : ℕ) → Fits w8 (get_or bytes i 0)) → x ≡ little (front 8 bytes) → y ≡ swap_bytes w64 x → y ≡ big (front 8 bytes)
 got_turned bytes fit e f =
-    f ∙ ap (λ (n : ℕ). swap_bytes w64 n) e ∙ turned (little (front 8 bytes)) ∙ by (leb 8 (length bytes)) refl
+    f ∙ ap (λ (n : ℕ). swap_bytes w64 n) e ∙ swapped (little (front 8 bytes)) ∙ by (leb 8 (length bytes)) refl
   where
     all : AllBytes bytes
     all = all_of bytes (λ i. omega (arith, fit i))

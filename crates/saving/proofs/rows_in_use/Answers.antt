@@ -1,20 +1,33 @@
--- The numbers that are left are those of the rows in use. Assumes nothing.
-use mathlib.Core.Path.{◌≡◌, refl, ◌∙◌}
+-- At each number the rows in use before it are counted. Assumes nothing.
+use Prim.Native.Nat.{◌+◌}
+use mathlib.Core.Path.{refl, subst⁻¹}
 use native.Mathlib.Omega.{arith}
 use borrow.Author.Rules.{rules}
-use lib.ListN.{length}
-use Rattle.std.proofs.lemmas.Iterator.{YieldsList-from_range}
-use Rattle.std.proofs.lemmas.Iterator.Consumers.{YieldsList-from_filter, count_from_yields_List}
-use Rattle.table.specs.Table.{row_at, row_of, in_use, rows_in_use}
-use Rattle.table.proofs.Kept.{kept_most}
-use Rattle.saving.proofs.Counting.{numbers_in_use}
+use Rattle.table.specs.Table.{kept}
+use Rattle.saving.proofs.Loops.{Counted, count_used, count_free, counted_most, counted_all}
 use Rattle.saving.proofs.rows_in_use.Goals as goal
+use Rattle.saving.proofs.rows_in_use.Goals.{then-row_at, else-row_at}
+
+pub loop-number-init : goal.loop-number-init
+unfolding kept
+loop-number-init c = refl
+
+pub overflow_add-count : goal.overflow_add-count
+overflow_add-count c = omega (arith, counted_most _ _ _ (omega arith) c.loop-number.invariant)
+
+pub loop-number-preserved : goal.loop-number-preserved
+loop-number-preserved c =
+    let t = c.args.table.now in
+    let l = c.loop-number in
+    let row = c.row_at in
+    elim c.if-row_at.branch [
+      | then-row_at w ↦
+          subst⁻¹ (Counted t (l.number + 1)) w.count-is
+          (count_used t l.number l.count row.result (search rules) row.ensures l.invariant w.if-row_at.true)
+      | else-row_at w ↦
+          subst⁻¹ (Counted t (l.number + 1)) w.count-is
+          (count_free t l.number l.count row.result (search rules) row.ensures l.invariant w.if-row_at.false)
+    ]
 
 pub returns : goal.returns
-returns c =
-    let t = c.args.table.now in
-    let n : c.count.result ≡ length (rows_in_use t) =
-    count_from_yields_List c.filter.result _ c.count.ensures.ran
-    (YieldsList-from_filter _ (λ i. (row_at t i).used) (YieldsList-from_range 0 32 32 c.filter.ensures.source refl) c.filter.ensures.closure (λ x b q k. search rules))
-    ∙ numbers_in_use t in
-    (n, omega (arith, n, kept_most 32 in_use (row_of t)))
+returns c = counted_all _ _ _ (omega arith) (omega arith) c.loop-number.invariant

@@ -1,6 +1,5 @@
-// The input of a program, read into memory that the caller has.
-#![tactic(auto)]
-
+// The input, read into memory that the caller has. Each program has this for itself, and no library offers it: no contract says what a
+// stream gives, so more than one outcome fits that of `fill`.
 ghost use Rattle.std.specs.Prelude.{◌≤◌, ◌<◌, length, take, OnOk};
 ghost use Rattle.std.specs.Io.KnownBytes.{Consumes, IsAtEnd};
 
@@ -11,7 +10,7 @@ use std::io::Read;
 // whether every read succeeded. There is no heap, and `read_exact` of the library does not say how many bytes came before an end: so the
 // loop stands here, and counts as that of the library does.
 #[tactic(auto, using(crate::proofs::Filling::filled))]
-pub fn fill<R: Read>(reader: &mut R, space: &mut [u8]) -> (usize, io::Result<()>)
+pub(crate) fn fill<R: Read>(reader: &mut R, space: &mut [u8]) -> (usize, io::Result<()>)
     ensures within { result.0 ≤ length space.new }
     ensures bytes { Consumes (R.remaining reader.old) (R.remaining reader.new) (take result.0 space.new) }
     ensures end { OnOk result.1 (result.0 < length space.new → IsAtEnd (R.remaining reader.new)) }
