@@ -1,5 +1,6 @@
-// The input of a program, read into memory that the caller has. Each program here has this for itself (`input.rt`); this one is for other crates.
-// No contract says what a stream gives, so more than one outcome fits that of `fill`, alone of the public functions.
+// The input of a program, read into memory that the caller has. Each program here that reads has this for itself (`input.rt`); this one is for
+// other crates. No contract says what a stream gives, so more than one outcome fits that of `fill`, alone of the public functions: a body that
+// gives up with an error has it too, and that this one reads, and hands on the reader's error, is tested.
 #![tactic(auto)]
 
 ghost use Rattle.std.specs.Prelude.{◌≤◌, ◌<◌, length, take, OnOk};

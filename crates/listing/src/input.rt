@@ -1,5 +1,5 @@
-// The input, read into memory that the caller has. Each program has this for itself; for other crates there is `input::fill`. No contract
-// says what a stream gives, so more than one outcome fits that of `fill`.
+// The input, read into memory that the caller has. Each program that reads has this for itself; for other crates there is `input::fill`.
+// No contract says what a stream gives, so more than one outcome fits that of `fill`.
 ghost use Rattle.std.specs.Prelude.{◌≤◌, ◌<◌, length, take, OnOk};
 ghost use Rattle.std.specs.Io.KnownBytes.{Consumes, IsAtEnd};
 
